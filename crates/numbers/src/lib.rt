@@ -1,0 +1,1 @@
+// Whole numbers: the definitions and laws are in specs/.

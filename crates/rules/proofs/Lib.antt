@@ -1,0 +1,4 @@
+-- What is proved of the rules here: the least water at rest, and the specimen's table.
+pub mod Falling
+pub mod Resting
+pub mod Specimen

@@ -1,0 +1,145 @@
+-- The job's bytes: what they say, and the causes 1 to 8 for which they are refused.
+use Prim.Native.Nat.{ℕ, _+_, _*_}
+use lib.Dec.{ltb, eqb}
+use lib.IntN.{ℤ, pos}
+use lib.ListN.{length, getD, take, drop}
+use mathlib.Core.Bool.{Bool, true, false, not, _&&_, _||_}
+use mathlib.Core.List.{List, [], _∷_}
+use Rattle.numbers.specs.Arrays.{filled, zeros}
+use Rattle.numbers.specs.Bytes.{number}
+use Rattle.numbers.specs.Lists.{all}
+use Rattle.rules.specs.Quantities.{within, clockLimits, budgetLimits}
+use Rattle.rules.specs.Curve.{points, compressibilitySound, conductivitySound}
+use Rattle.rules.specs.Layer.{Site, drainedTop, drainedBottom}
+use Rattle.rules.specs.Load.{tableSound}
+use Rattle.rules.specs.Record.{headerSound, sizesSound}
+use Rattle.rules.specs.Refusals.{Trial, _if_}
+use Rattle.rules.specs.declared.answers.Refusal.the-variants.{
+  ShortOrUnmarked,
+  OtherVersion,
+  HeaderOutside,
+  WrongLength,
+  FieldOutside,
+  CompressibilityCurve,
+  ConductivityCurve,
+  LoadTable,
+}
+use Rattle.rules.specs.declared.job.Description.{Description}
+use Rattle.rules.specs.declared.quantities.Face.{Face}
+use Rattle.rules.specs.declared.quantities.Face.the-variants.{Closed}
+
+-- the number in a field: so many bytes from an offset, lowest first
+unfoldable pub field : (size offset : ℕ) → List ℕ → ℕ
+unfolding number
+field size offset job = number (take size (drop offset job))
+
+-- L S C
+unfoldable pub marked : List ℕ → Bool
+marked job = eqb (getD job 0 0) 76 && eqb (getD job 1 0) 83 && eqb (getD job 2 0) 67
+
+abbrev pub headerLength : ℕ
+headerLength = 48
+
+-- the length of each pair of 64-bit fields
+abbrev pub pairLength : ℕ
+pairLength = 16
+
+-- an array of the first, or of the second, fields of pairs that begin at an offset
+unfoldable pub firsts : (size offset count : ℕ) → List ℕ → List ℕ
+unfolding filled zeros field
+firsts size offset count job = filled (zeros size) count (λ i. field 8 (offset + pairLength * i) job)
+
+unfoldable pub seconds : (size offset count : ℕ) → List ℕ → List ℕ
+unfolding firsts
+seconds size offset count job = firsts size (offset + 8) count job
+
+-- what a job's bytes say
+unfoldable pub described : List ℕ → Description
+unfolding field firsts seconds
+described job =
+    let elements = field 1 7 job in
+    let compressibilityPoints = field 1 8 job in
+    let conductivityPoints = field 1 9 job in
+    let tablePoints = field 1 10 job in
+    let compressibilityAt = headerLength + pairLength * elements in
+    let conductivityAt = compressibilityAt + pairLength * compressibilityPoints in
+    let tableAt = conductivityAt + pairLength * conductivityPoints in
+    record {
+      top = field 1 5 job;
+      bottom = field 1 6 job;
+      elements = elements;
+      «compressibility_points» = compressibilityPoints;
+      «conductivity_points» = conductivityPoints;
+      «table_points» = tablePoints;
+      start = field 1 11 job;
+      gravity = field 2 12 job;
+      «top_level» = field 8 16 job;
+      «bottom_level» = field 8 24 job;
+      end = field 8 32 job;
+      budget = field 8 40 job;
+      solids = firsts 128 headerLength elements job;
+      water = seconds 128 headerLength elements job;
+      «compressibility_stress» = firsts 64 compressibilityAt compressibilityPoints job;
+      «compressibility_void» = seconds 64 compressibilityAt compressibilityPoints job;
+      «conductivity_void» = firsts 64 conductivityAt conductivityPoints job;
+      conductivity = seconds 64 conductivityAt conductivityPoints job;
+      «table_time» = firsts 64 tableAt tablePoints job;
+      «table_load» = seconds 64 tableAt tablePoints job;
+    }
+
+-- the face that a number says: 0 is closed
+unfoldable pub numberedFace : (number : ℕ) (drained : Face) → Face
+numberedFace number drained = elim (eqb number 0) [ true ↦ Closed | false ↦ drained ]
+
+-- what a description fixes for good
+unfoldable pub jobSite : Description → Site
+unfolding points numberedFace drainedTop drainedBottom
+jobSite d = record {
+  solids = take d.elements d.solids;
+  compressibility = points (d .«compressibility_points») (d .«compressibility_void») (d .«compressibility_stress»);
+  conductivity = points (d .«conductivity_points») (d .«conductivity_void») d.conductivity;
+  loadTable = points (d .«table_points») (d .«table_time») (d .«table_load»);
+  top = numberedFace d.top drainedTop;
+  bottom = numberedFace d.bottom (drainedBottom (pos (d .«top_level»)) (pos (d .«bottom_level»)));
+  gravity = d.gravity;
+  topLevel = pos (d .«top_level»);
+  bottomLevel = pos (d .«bottom_level»);
+}
+
+-- the water heights that it gives
+unfoldable pub givenWater : Description → List ℕ
+givenWater d = take d.elements d.water
+
+-- cause 5: level, end, budget, solids and water keep their limits, and in start 1 no water is given
+unfoldable pub fieldsSound : Description → Bool
+unfolding sizesSound jobSite givenWater within all
+fieldsSound d =
+    sizesSound (jobSite d) (givenWater d) && within clockLimits d.end && within budgetLimits d.budget &&
+    (eqb d.start 0 || all (λ w. eqb w 0) (givenWater d))
+
+-- the length of a job with so many elements and points
+unfoldable pub jobLength : Description → ℕ
+jobLength d =
+    headerLength + pairLength * (d.elements + d .«compressibility_points» + d .«conductivity_points» + d .«table_points»)
+
+-- causes 3 and 5 to 8, of a description
+unfoldable pub descriptionSound : Description → Bool
+unfolding headerSound
+descriptionSound d =
+    headerSound d.top d.bottom d.elements (d .«compressibility_points») (d .«conductivity_points») (d .«table_points») d.start
+    d.gravity
+
+-- the causes 1 to 8 of a job, in their order
+unfoldable pub jobCauses : List ℕ → List Trial
+unfolding described marked field descriptionSound jobLength fieldsSound jobSite compressibilitySound conductivitySound tableSound
+jobCauses job =
+    let d = described job in
+    let site = jobSite d in
+    (ShortOrUnmarked if (ltb (length job) headerLength || not (marked job))) ∷
+    (OtherVersion if not (eqb (field 2 3 job) 1)) ∷
+    (HeaderOutside if (not (descriptionSound d) || not (eqb (field 2 14 job) 0))) ∷
+    (WrongLength if not (eqb (length job) (jobLength d))) ∷
+    (FieldOutside if not (fieldsSound d)) ∷
+    (CompressibilityCurve if not (compressibilitySound (site .compressibility))) ∷
+    (ConductivityCurve if not (conductivitySound (site .conductivity) (site .compressibility))) ∷
+    (LoadTable if not (tableSound (site .loadTable))) ∷ []

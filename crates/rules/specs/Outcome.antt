@@ -1,0 +1,49 @@
+-- What a call answers on a layer, and what it does: nothing where it is refused.
+use Prim.Native.Nat.{ℕ}
+use lib.IntN.{pos}
+use mathlib.Core.List.{List, [], _∷_}
+use mathlib.Core.Option.{Option, none, some}
+use Rattle.rules.specs.Layer.{Site, State}
+use Rattle.rules.specs.Refusals.{refusalNumber}
+use Rattle.rules.specs.Step.{stepRefusal}
+use Rattle.rules.specs.Load.{loadRefusal}
+use Rattle.rules.specs.Run.{Event, loadSet, stepTaken, stepCount, running, runRefusal}
+use Rattle.rules.specs.declared.answers.Answer.{Answer}
+use Rattle.rules.specs.declared.answers.Answer.the-variants.{Done, Ran, Refused}
+use Rattle.rules.specs.declared.answers.Call.{Call}
+use Rattle.rules.specs.declared.answers.Call.the-variants.{Load, Step, Run}
+use Rattle.rules.specs.declared.answers.Refusal.{Refusal}
+
+-- the number returned with an answer: 0, or the refusal's
+unfoldable pub answerNumber : Answer → ℕ
+unfolding refusalNumber
+answerNumber Done = 0
+answerNumber (Ran stop steps) = 0
+answerNumber (Refused cause) = refusalNumber cause
+
+unfoldable pub refusalOf : Answer → Option Refusal
+refusalOf Done = none
+refusalOf (Ran stop steps) = none
+refusalOf (Refused cause) = some cause
+
+pub record Outcome : Type 0 where
+  pub answer : Answer
+  pub events : List Event
+
+unfoldable pub refused : Refusal → Outcome
+refused cause = record { answer = Refused cause; events = [] }
+
+unfoldable pub ran : Site → (end budget : ℕ) → State → Outcome
+unfolding running stepCount
+ran site end budget s =
+    let run = running site end budget s in
+    record { answer = Ran (run .stop) (stepCount (run .events)); events = run .events }
+
+unfoldable pub outcome : Site → State → Call → Outcome
+unfolding loadRefusal stepRefusal runRefusal refused ran
+outcome site s (Load load) =
+    elim (loadRefusal load) [ some cause ↦ refused cause | none ↦ record { answer = Done; events = loadSet (pos load) ∷ [] } ]
+outcome site s (Step t) =
+    elim (stepRefusal site s t) [ some cause ↦ refused cause | none ↦ record { answer = Done; events = stepTaken t ∷ [] } ]
+outcome site s (Run end budget) =
+    elim (runRefusal s end budget) [ some cause ↦ refused cause | none ↦ ran site end budget s ]

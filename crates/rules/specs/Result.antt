@@ -1,0 +1,98 @@
+-- The result's bytes.
+use Prim.Native.Nat.{ℕ, _+_, _*_}
+use lib.Dec.{ltb}
+use lib.IntN.{ℤ, pos, _+ℤ_, _-ℤ_}
+use lib.ListN.{length}
+use mathlib.Core.Bool.{Bool, true, false, not}
+use mathlib.Core.List.{List, [], _∷_, _++_}
+use mathlib.Core.Option.{Option, none, some}
+use Rattle.numbers.specs.Arrays.{overlaid}
+use Rattle.numbers.specs.Bytes.{bytes}
+use Rattle.numbers.specs.Integers.{signedField}
+use Rattle.numbers.specs.Lists.{paired}
+use Rattle.numbers.specs.Rounding.{floor}
+use Rattle.numbers.specs.Sums.{sum}
+use Rattle.rules.specs.Quantities.{head, pressureOf}
+use Rattle.rules.specs.Curve.{valueOf}
+use Rattle.rules.specs.Layer.{Site, height, voidRatio, effectiveStress, excessPressure}
+use Rattle.rules.specs.Record.{recordSite, recordState, isLayer}
+use Rattle.rules.specs.Refusals.{_if_, firstCause, refusalNumber}
+use Rattle.rules.specs.Run.{stopNumber}
+use Rattle.rules.specs.Tally.{layerHeight}
+use Rattle.rules.specs.declared.answers.Refusal.{Refusal}
+use Rattle.rules.specs.declared.answers.Refusal.the-variants.{NoLayer, ShortBuffer}
+use Rattle.rules.specs.declared.answers.Stop.{Stop}
+use Rattle.rules.specs.declared.record.Record.{Record}
+
+-- z: the height of an element's node, over the height of all below
+unfoldable pub nodeHeight : (below S W : ℕ) → ℕ
+nodeHeight below S W = below + floor (height S W) 2
+
+-- the pore pressure at an element's node
+unfoldable pub porePressure : Site → (load : ℤ) (below S W : ℕ) (above : List ℕ) → ℤ
+unfolding excessPressure pressureOf nodeHeight
+porePressure site load below S W above =
+    excessPressure site load S W above +ℤ (pressureOf (head (site.topLevel -ℤ pos (nodeHeight below S W)))) .0
+
+abbrev pub word : ℕ → List ℕ
+word n = bytes 8 n
+
+-- W, E, effective stress, total stress and pore pressure of an element
+unfoldable pub elementBytes : Site → (load : ℤ) (below S W : ℕ) (above : List ℕ) → List ℕ
+unfolding voidRatio effectiveStress valueOf porePressure bytes
+elementBytes site load below S W above =
+    let effective = valueOf (effectiveStress site S W) in
+    let pore = porePressure site load below S W above in
+    word W ++ word (voidRatio S W) ++ word effective ++ word (signedField (pore +ℤ pos effective)) ++ word (signedField pore)
+
+unfoldable pub elementsBytes : Site → (load : ℤ) (below : ℕ) (solids water : List ℕ) → List ℕ
+unfolding elementBytes
+elementsBytes site load below [] Ws = []
+elementsBytes site load below (S ∷ above) [] = []
+elementsBytes site load below (S ∷ above) (W ∷ Ws) =
+    elementBytes site load below S W above ++ elementsBytes site load (below + height S W) above Ws
+
+-- the starting height less the present one
+unfoldable pub settlement : Record → ℤ
+unfolding recordSite recordState sum layerHeight
+settlement r =
+    let solids = (recordSite r) .solids in
+    pos (sum solids + r .«starting_water») -ℤ pos (layerHeight solids (recordState r))
+
+-- the result of a record, a run's stop and its number of steps
+unfoldable pub resultBytes : Record → Stop → (steps : ℕ) → List ℕ
+unfolding bytes stopNumber settlement recordSite recordState elementsBytes
+resultBytes r stop steps =
+    let site = recordSite r in
+    let s = recordState r in
+    (76 ∷ 83 ∷ 82 ∷ []) ++ bytes 2 1 ++ bytes 1 (stopNumber stop) ++ bytes 1 r.elements ++ bytes 1 0 ++
+    word (s .clock) ++ word steps ++ word (signedField (s .load)) ++ word (signedField (s .topOutflow)) ++
+    word (signedField (s .bottomOutflow)) ++ word (signedField (settlement r)) ++
+    elementsBytes site (s .load) 0 (site .solids) (s .water)
+
+unfoldable pub resultLength : Record → ℕ
+resultLength r = 56 + 40 * r.elements
+
+-- why a result is refused, if it is: 11, then 10
+unfoldable pub resultRefusal : Record → (room : ℕ) → Option Refusal
+unfolding firstCause isLayer resultLength
+resultRefusal r room =
+    firstCause ((NoLayer if not (isLayer r)) ∷ (ShortBuffer if ltb room (resultLength r)) ∷ [])
+
+-- the number returned, and the buffer as it is left
+pub record Returned : Type 0 where
+  pub number : ℕ
+  pub buffer : List ℕ
+
+unfoldable pub withheld : Refusal → (buffer : List ℕ) → Returned
+unfolding refusalNumber
+withheld cause buffer = record { number = refusalNumber cause; buffer = buffer }
+
+-- a result handed to a buffer: its first places are written, or none
+unfoldable pub result : Record → Stop → (steps : ℕ) (buffer : List ℕ) → Returned
+unfolding resultRefusal withheld resultBytes overlaid
+result r stop steps buffer =
+    elim (resultRefusal r (length buffer)) [
+      | some cause ↦ withheld cause buffer
+      | none ↦ record { number = 0; buffer = overlaid (resultBytes r stop steps) buffer }
+    ]

@@ -1,0 +1,60 @@
+-- Start: where the water heights of an opened layer come from.
+use Prim.Native.Nat.{ℕ, suc, _+_}
+use lib.Dec.{leb, eqb}
+use lib.IntN.{ℤ, pos}
+use mathlib.Core.Bool.{Bool, true, false}
+use mathlib.Core.List.{List, [], _∷_, map}
+use mathlib.Core.Option.{Option, none, some}
+use Rattle.numbers.specs.Lists.{least, lastOr}
+use Rattle.rules.specs.Quantities.{waterLimits}
+use Rattle.rules.specs.Curve.{Point, point}
+use Rattle.rules.specs.Layer.{Site, effectiveStress, burden}
+use Rattle.rules.specs.Step.{allOnCurve}
+use Rattle.rules.specs.Load.{firstPoint}
+use Rattle.rules.specs.declared.quantities.CurveValue.{CurveValue}
+use Rattle.rules.specs.declared.quantities.CurveValue.the-variants.{On, Off}
+
+-- the load at opening: the table's first
+unfoldable pub openingLoad : Site → ℕ
+unfolding firstPoint
+openingLoad site = (firstPoint site.loadTable) .ordinate
+
+-- on the curve, with a stress of at most so much
+unfoldable pub atMost : CurveValue → (stress : ℕ) → Bool
+atMost (On value) stress = leb value stress
+atMost Off stress = false
+
+-- the least water height on the curve whose effective stress is at most so much
+unfoldable pub restingWater : Site → (S stress : ℕ) → Option ℕ
+unfolding least atMost effectiveStress
+restingWater site S stress = least (suc (waterLimits .most)) 0 (λ W. atMost (effectiveStress site S W) stress)
+
+-- the compressibility curve's last stress
+unfoldable pub lastStress : List Point → ℕ
+unfolding lastOr
+lastStress curve = (lastOr (point 0 0) curve) .ordinate
+
+unfoldable pub prepended : Option ℕ → Option (List ℕ) → Option (List ℕ)
+prepended none rest = none
+prepended (some a) none = none
+prepended (some a) (some rest) = some (a ∷ rest)
+
+-- the resting water of each element, under load + B, where that is not above the last stress
+unfoldable pub restingFrom : Site → (load : ℕ) (solids : List ℕ) → Option (List ℕ)
+unfolding burden lastStress prepended
+restingFrom site load [] = some []
+restingFrom site load (S ∷ above) =
+    let stress = load + burden site.gravity S above in
+    elim (leb stress (lastStress site.compressibility)) [
+      | true ↦ prepended (restingWater site S stress) (restingFrom site load above)
+      | false ↦ none
+    ]
+
+-- the water of start 0, as given, and of start 1, at rest under a load; none where cause 9 holds
+unfoldable pub startWater : Site → (start : ℕ) (given : List ℕ) (load : ℕ) → Option (List ℕ)
+unfolding allOnCurve restingFrom
+startWater site start given load =
+    elim (eqb start 0) [
+      | true ↦ elim (allOnCurve site (map pos given)) [ true ↦ some given | false ↦ none ]
+      | false ↦ restingFrom site load site.solids
+    ]

@@ -1,0 +1,131 @@
+-- One step of t seconds. All is read before anything moves.
+use Prim.Native.Nat.{ℕ, _+_, _*_}
+use lib.Dec.{ltb}
+use lib.IntN.{ℤ, pos, negsuc, negℤ, natAbs, _+ℤ_, _-ℤ_, _*ℤ_}
+use mathlib.Core.Bool.{Bool, true, false, not, _||_}
+use mathlib.Core.List.{List, [], _∷_, _++_, map}
+use mathlib.Core.Option.{Option}
+use Rattle.numbers.specs.Rounding.{cut}
+use Rattle.numbers.specs.Lists.{all, any, paired, firstOr, lastOr}
+use Rattle.rules.specs.Quantities.{within, stepLimits, clockLimits}
+use Rattle.rules.specs.Curve.{steepness, isOn}
+use Rattle.rules.specs.Layer.{Site, State, Element, elements, effectiveStress}
+use Rattle.rules.specs.Refusals.{_if_, firstCause}
+use Rattle.rules.specs.declared.quantities.Face.{Face}
+use Rattle.rules.specs.declared.quantities.Face.the-variants.{Closed, Drained}
+use Rattle.rules.specs.declared.answers.Refusal.{Refusal}
+use Rattle.rules.specs.declared.answers.Refusal.the-variants.{StepOutside, StepTooLong, StepOffCurve}
+
+-- R of an inner face, and of a drained outer one
+unfoldable pub innerResistance : (below above : Element) → ℕ
+innerResistance below above = below.resistance + above.resistance
+
+unfoldable pub outerResistance : Element → ℕ
+outerResistance e = e.resistance
+
+-- up through an inner face
+unfoldable pub upward : (t : ℕ) (below above : Element) → ℤ
+unfolding innerResistance
+upward t below above = cut ((below.excess -ℤ above.excess) *ℤ pos t) (innerResistance below above)
+
+-- out through an outer face
+unfoldable pub outward : Face → (t : ℕ) → Element → ℤ
+unfolding outerResistance
+outward Closed t e = pos 0
+outward (Drained held) t e = cut ((e.excess -ℤ held .0) *ℤ pos t) (outerResistance e)
+
+-- up through the upper face of each element
+unfoldable pub flowsAbove : (top : Face) (t : ℕ) → List Element → List ℤ
+unfolding upward outward
+flowsAbove top t [] = []
+flowsAbove top t (e ∷ []) = outward top t e ∷ []
+flowsAbove top t (e ∷ f ∷ rest) = upward t e f ∷ flowsAbove top t (f ∷ rest)
+
+-- up through every face of the layer, the bottom first: one flow more than elements
+unfoldable pub upwardFlows : Site → (t : ℕ) → List Element → List ℤ
+unfolding outward flowsAbove
+upwardFlows site t [] = []
+upwardFlows site t (e ∷ rest) = negℤ (outward site.bottom t e) ∷ flowsAbove site.top t (e ∷ rest)
+
+-- the new water, on the curve or not: less what leaves by the upper face, and what enters by the lower
+unfoldable pub moved : (flows : List ℤ) (water : List ℕ) → List ℤ
+moved [] ws = []
+moved (below ∷ []) ws = []
+moved (below ∷ above ∷ rest) [] = []
+moved (below ∷ above ∷ rest) (w ∷ ws) = (pos w -ℤ above +ℤ below) ∷ moved (above ∷ rest) ws
+
+-- the state after a step
+unfoldable pub stepped : Site → (t : ℕ) → State → State
+unfolding upwardFlows elements moved firstOr lastOr
+stepped site t s =
+    let flows = upwardFlows site t (elements site s) in
+    record {
+      water = map natAbs (moved flows s.water);
+      load = s.load;
+      clock = s.clock + t;
+      topOutflow = s.topOutflow +ℤ lastOr (pos 0) flows;
+      bottomOutflow = s.bottomOutflow -ℤ firstOr (pos 0) flows;
+    }
+
+-- K, the most by which the effective stress falls for each unit of void ratio: G
+unfoldable pub stressSlope : Site → ℕ
+unfolding steepness
+stressSlope site = steepness site.compressibility
+
+-- an element with an inner or drained face of it: the element's c and the face's R
+pub record Contact : Type 0 where
+  pub sensitivity : ℕ
+  pub resistance : ℕ
+
+abbrev pub contact : Element → ℕ → Contact
+contact e R = record { sensitivity = e.sensitivity; resistance = R }
+
+unfoldable pub outerContacts : Face → Element → List Contact
+unfolding outerResistance
+outerContacts Closed e = []
+outerContacts (Drained held) e = contact e (outerResistance e) ∷ []
+
+unfoldable pub contactsAbove : (top : Face) → List Element → List Contact
+unfolding outerContacts innerResistance
+contactsAbove top [] = []
+contactsAbove top (e ∷ []) = outerContacts top e
+contactsAbove top (e ∷ f ∷ rest) =
+    contact e (innerResistance e f) ∷ contact f (innerResistance e f) ∷ contactsAbove top (f ∷ rest)
+
+-- every element with every inner or drained face of it
+unfoldable pub contacts : Site → List Element → List Contact
+unfolding outerContacts contactsAbove
+contacts site [] = []
+contacts site (e ∷ rest) = outerContacts site.bottom e ++ contactsAbove site.top (e ∷ rest)
+
+-- a step is too long for some element and face of it
+unfoldable pub tooLong : Site → State → (t : ℕ) → Bool
+unfolding any contacts elements stressSlope
+tooLong site s t =
+    any (λ c. ltb (c .resistance) (2 * c .sensitivity * stressSlope site * t)) (contacts site (elements site s))
+
+-- a water height is on the curve
+unfoldable pub onCurve : Site → (S : ℕ) (W : ℤ) → Bool
+unfolding isOn effectiveStress
+onCurve site S (pos W) = isOn (effectiveStress site S W)
+onCurve site S (negsuc W) = false
+
+-- all water heights are
+unfoldable pub allOnCurve : Site → (water : List ℤ) → Bool
+unfolding all paired onCurve
+allOnCurve site water = all (λ on. on) (paired (onCurve site) site.solids water)
+
+-- a step would take some element off the curve
+unfoldable pub leavesCurve : Site → State → (t : ℕ) → Bool
+unfolding allOnCurve moved upwardFlows elements
+leavesCurve site s t = not (allOnCurve site (moved (upwardFlows site t (elements site s)) s.water))
+
+-- why a step is refused, if it is: 13, 14, 15
+unfoldable pub stepRefusal : Site → State → (t : ℕ) → Option Refusal
+unfolding firstCause within tooLong leavesCurve
+stepRefusal site s t =
+    firstCause (
+    (StepOutside if (not (within stepLimits t) || not (within clockLimits (s.clock + t)))) ∷
+    (StepTooLong if tooLong site s t) ∷
+    (StepOffCurve if leavesCurve site s t) ∷ []
+    )

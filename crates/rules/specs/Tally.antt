@@ -1,0 +1,98 @@
+-- The tally: fed the job and each call, and nothing of a record.
+use Prim.Native.Nat.{ℕ, _+_}
+use lib.IntN.{ℤ, pos, _-ℤ_}
+use mathlib.Core.List.{List, [], _∷_, _++_, map}
+use Rattle.numbers.specs.Lists.{paired}
+use Rattle.numbers.specs.Signed.{up}
+use Rattle.numbers.specs.Sums.{sum}
+use Rattle.rules.specs.Layer.{Site, State, Element, elements, height}
+use Rattle.rules.specs.Step.{stepped}
+use Rattle.rules.specs.Load.{withLoad}
+use Rattle.rules.specs.Run.{Event, loadSet, stepTaken, afterEvent, after}
+use Rattle.rules.specs.Start.{openingLoad}
+use Rattle.rules.specs.Outcome.{Outcome, outcome}
+use Rattle.rules.specs.declared.answers.Answer.{Answer}
+use Rattle.rules.specs.declared.answers.Call.{Call}
+
+-- every S, what calls change, and the sums of all rises and of all falls of load
+pub record Tally : Type 0 where
+  pub solids : List ℕ
+  pub state : State
+  pub rises : ℕ
+  pub falls : ℕ
+
+-- the state of a layer just opened with some water
+unfoldable pub openingState : Site → (water : List ℕ) → State
+unfolding openingLoad
+openingState site water = record {
+  water = water;
+  load = pos (openingLoad site);
+  clock = 0;
+  topOutflow = pos 0;
+  bottomOutflow = pos 0;
+}
+
+unfoldable pub begun : Site → (water : List ℕ) → Tally
+unfolding openingState
+begun site water = record { solids = site.solids; state = openingState site water; rises = 0; falls = 0 }
+
+-- by how much one number is above another
+abbrev pub above : ℤ → ℤ → ℕ
+above a b = up (a -ℤ b)
+
+-- an event on the tally: a load set adds to the rises or to the falls
+unfoldable pub recorded : Site → Event → Tally → Tally
+unfolding withLoad stepped
+recorded site (loadSet load) y = record {
+  solids = y.solids;
+  state = withLoad load y.state;
+  rises = y.rises + above load (y .state .load);
+  falls = y.falls + above (y .state .load) load;
+}
+recorded site (stepTaken t) y =
+    record { solids = y.solids; state = stepped site t y.state; rises = y.rises; falls = y.falls }
+
+unfoldable pub tallied : Site → List Event → Tally → Tally
+unfolding recorded
+tallied site [] y = y
+tallied site (e ∷ rest) y = tallied site rest (recorded site e y)
+
+-- a list of calls: every answer, every event, and the tally after it
+pub record Course : Type 0 where
+  pub answers : List Answer
+  pub events : List Event
+  pub tally : Tally
+
+unfoldable pub course : Site → List Call → Tally → Course
+unfolding outcome tallied
+course site [] y = record { answers = []; events = []; tally = y }
+course site (call ∷ rest) y =
+    let o = outcome site (y .state) call in
+    let more = course site rest (tallied site (o .events) y) in
+    record { answers = o .answer ∷ more .answers; events = o .events ++ more .events; tally = more .tally }
+
+-- an accepted step, alone or in a run: the states before and after it
+pub record StepTrace : Type 0 where
+  pub before : State
+  pub later : State
+
+unfoldable pub stepTraces : Site → List Event → State → List StepTrace
+unfolding withLoad stepped
+stepTraces site [] s = []
+stepTraces site (loadSet load ∷ rest) s = stepTraces site rest (withLoad load s)
+stepTraces site (stepTaken t ∷ rest) s =
+    record { before = s; later = stepped site t s } ∷ stepTraces site rest (stepped site t s)
+
+-- the excess pressures of a state; of the first, they are the starting excesses
+unfoldable pub excesses : Site → State → List ℤ
+unfolding elements
+excesses site s = map (λ e. e .excess) (elements site s)
+
+-- the water of a state, and its height; of the first, they are the starting water and the starting height
+unfoldable pub waterLeft : State → ℕ
+unfolding sum
+waterLeft s = sum s.water
+
+unfoldable pub layerHeight : (solids : List ℕ) → State → ℕ
+unfolding sum paired
+layerHeight solids s = sum (paired height solids s.water)

@@ -1,0 +1,49 @@
+use crate::record::Record;
+
+// Why the key is withheld, in the order of the causes' numbers.
+pub enum Refusal {
+    ShortOrUnmarked,
+    OtherVersion,
+    HeaderOutside,
+    WrongLength,
+    FieldOutside,
+    CompressibilityCurve,
+    ConductivityCurve,
+    LoadTable,
+    StartOffCurve,
+    ShortBuffer,
+    NoLayer,
+    LoadOutside,
+    StepOutside,
+    StepTooLong,
+    StepOffCurve,
+    RunOutside,
+}
+
+// Why a run stopped.
+pub enum Stop {
+    AtEnd,
+    BudgetUsed,
+    NoStep,
+    OffCurve,
+}
+
+// What a call asks: a load, a step, or a run to an end with a budget.
+pub enum Call {
+    Load(u64),
+    Step(u64),
+    Run(u64, u64),
+}
+
+// What a call answers: done, a run's stop and number of steps, or a refusal.
+pub enum Answer {
+    Done,
+    Ran(Stop, u64),
+    Refused(Refusal),
+}
+
+// An answer with the record as the call leaves it.
+pub struct Answered {
+    pub answer: Answer,
+    pub after: Record,
+}

@@ -1,0 +1,23 @@
+// What a job's bytes say, before any of it is tested. Array places past a count are 0.
+pub struct Description {
+    pub top: u8,
+    pub bottom: u8,
+    pub elements: usize,
+    pub compressibility_points: usize,
+    pub conductivity_points: usize,
+    pub table_points: usize,
+    pub start: u8,
+    pub gravity: u64,
+    pub top_level: u64,
+    pub bottom_level: u64,
+    pub end: u64,
+    pub budget: u64,
+    pub solids: [u64; 128],
+    pub water: [u64; 128],
+    pub compressibility_stress: [u64; 64],
+    pub compressibility_void: [u64; 64],
+    pub conductivity_void: [u64; 64],
+    pub conductivity: [u64; 64],
+    pub table_time: [u64; 64],
+    pub table_load: [u64; 64],
+}
