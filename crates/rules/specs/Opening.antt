@@ -3,11 +3,12 @@ use Prim.Native.Nat.{ℕ}
 use lib.IntN.{ℤ, pos}
 use mathlib.Core.List.{List}
 use mathlib.Core.Option.{Option, none, some}
-use Rattle.numbers.specs.Arrays.{overlaid, zeros}
+use Rattle.numbers.specs.Arrays.{zeros}
 use Rattle.numbers.specs.Sums.{sum}
 use Rattle.rules.specs.Quantities.{head, pressure}
-use Rattle.rules.specs.Start.{startWater, openingLoad}
+use Rattle.rules.specs.Start.{startWater, openingLoad, openingState}
 use Rattle.rules.specs.Refusals.{firstCause}
+use Rattle.rules.specs.Record.{withState}
 use Rattle.rules.specs.Job.{described, jobSite, givenWater, jobCauses}
 use Rattle.rules.specs.declared.answers.Answer.the-variants.{Done, Refused}
 use Rattle.rules.specs.declared.answers.Answered.{Answered}
@@ -45,10 +46,10 @@ blankRecord = record {
   «starting_water» = 0;
 }
 
--- the record of a description, opened with the water of its start
-unfoldable pub openedRecord : Description → (water : List ℕ) → Record
-unfolding jobSite overlaid zeros sum openingLoad
-openedRecord d water =
+-- the record of a description, its state not yet set
+unfoldable pub describedRecord : Description → (startingWater : ℕ) → Record
+unfolding jobSite zeros
+describedRecord d startingWater =
     let site = jobSite d in
     record {
       top = site .top;
@@ -61,19 +62,24 @@ openedRecord d water =
       «top_level» = head (site .topLevel);
       «bottom_level» = head (site .bottomLevel);
       solids = d.solids;
-      water = overlaid water (zeros 128);
+      water = zeros 128;
       «compressibility_stress» = d .«compressibility_stress»;
       «compressibility_void» = d .«compressibility_void»;
       «conductivity_void» = d .«conductivity_void»;
       conductivity = d.conductivity;
       «table_time» = d .«table_time»;
       «table_load» = d .«table_load»;
-      load = pressure (pos (openingLoad site));
+      load = pressure (pos 0);
       clock = record { 0 = 0 };
       «top_outflow» = pos 0;
       «bottom_outflow» = pos 0;
-      «starting_water» = sum water;
+      «starting_water» = startingWater;
     }
+
+-- the record of a description, opened with the water of its start
+unfoldable pub openedRecord : Description → (water : List ℕ) → Record
+unfolding describedRecord withState openingState jobSite sum
+openedRecord d water = withState (describedRecord d (sum water)) (openingState (jobSite d) water)
 
 unfoldable pub refusedOpening : Refusal → Answered
 unfolding blankRecord

@@ -8,7 +8,7 @@ use mathlib.Core.Option.{Option, none, some}
 use Rattle.numbers.specs.Lists.{least, lastOr}
 use Rattle.rules.specs.Quantities.{waterLimits}
 use Rattle.rules.specs.Curve.{Point, point}
-use Rattle.rules.specs.Layer.{Site, effectiveStress, burden}
+use Rattle.rules.specs.Layer.{Site, State, effectiveStress, burden}
 use Rattle.rules.specs.Step.{allOnCurve}
 use Rattle.rules.specs.Load.{firstPoint}
 use Rattle.rules.specs.declared.quantities.CurveValue.{CurveValue}
@@ -58,3 +58,14 @@ startWater site start given load =
       | true ↦ elim (allOnCurve site (map pos given)) [ true ↦ some given | false ↦ none ]
       | false ↦ restingFrom site load site.solids
     ]
+
+-- the state of a layer just opened with some water
+unfoldable pub openingState : Site → (water : List ℕ) → State
+unfolding openingLoad
+openingState site water = record {
+  water = water;
+  load = pos (openingLoad site);
+  clock = 0;
+  topOutflow = pos 0;
+  bottomOutflow = pos 0;
+}

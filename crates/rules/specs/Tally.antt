@@ -1,6 +1,6 @@
 -- The tally: fed the job and each call, and nothing of a record.
 use Prim.Native.Nat.{ℕ, _+_}
-use lib.IntN.{ℤ, pos, _-ℤ_}
+use lib.IntN.{ℤ, _-ℤ_}
 use mathlib.Core.List.{List, [], _∷_, _++_, map}
 use Rattle.numbers.specs.Lists.{paired}
 use Rattle.numbers.specs.Signed.{up}
@@ -9,7 +9,7 @@ use Rattle.rules.specs.Layer.{Site, State, Element, elements, height}
 use Rattle.rules.specs.Step.{stepped}
 use Rattle.rules.specs.Load.{withLoad}
 use Rattle.rules.specs.Run.{Event, loadSet, stepTaken, afterEvent, after}
-use Rattle.rules.specs.Start.{openingLoad}
+use Rattle.rules.specs.Start.{openingState}
 use Rattle.rules.specs.Outcome.{Outcome, outcome}
 use Rattle.rules.specs.declared.answers.Answer.{Answer}
 use Rattle.rules.specs.declared.answers.Call.{Call}
@@ -21,17 +21,7 @@ pub record Tally : Type 0 where
   pub rises : ℕ
   pub falls : ℕ
 
--- the state of a layer just opened with some water
-unfoldable pub openingState : Site → (water : List ℕ) → State
-unfolding openingLoad
-openingState site water = record {
-  water = water;
-  load = pos (openingLoad site);
-  clock = 0;
-  topOutflow = pos 0;
-  bottomOutflow = pos 0;
-}
-
+-- the tally as it begins
 unfoldable pub begun : Site → (water : List ℕ) → Tally
 unfolding openingState
 begun site water = record { solids = site.solids; state = openingState site water; rises = 0; falls = 0 }
