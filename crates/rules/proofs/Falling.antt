@@ -1,5 +1,5 @@
 -- Along a falling curve the ordinate never rises with the abscissa.
-use Prim.Native.Nat.{ℕ, _+_, _-_, _≤_, _<_, min, max}
+use Prim.Native.Nat.{ℕ, _-_, _≤_, _<_, min, max}
 use native.Mathlib.Nat.{le-trans, le-of-lt}
 use native.Mathlib.Omega.{arith}
 use lib.Dec.{T, leb, ltb, leb→le, ltb→lt, le→leb, T-not}
@@ -7,13 +7,13 @@ use borrow.Author.Tests.{leb-true, leb-false}
 use mathlib.Core.Bool.{Bool, true, false, not, _&&_}
 use mathlib.Core.List.{List, [], _∷_}
 use mathlib.Core.Path.{_≡_, refl}
-use Rattle.numbers.specs.Interpolation.{distance, share}
-use Rattle.numbers.specs.Lists.{neighbours, firstOr}
+use Rattle.numbers.specs.Interpolation.{distance}
+use Rattle.numbers.specs.Lists.{neighbours}
 use Rattle.numbers.specs.Searches.{both, joined}
 use Rattle.numbers.specs.Share.{interpolates}
 use Rattle.rules.specs.Curve.{Point, spans, interpolated, curveAt, isOn, valueOf, falling}
 use Rattle.rules.specs.declared.quantities.CurveValue.{CurveValue}
-use Rattle.rules.specs.declared.quantities.CurveValue.the-variants.{On, Off}
+use Rattle.rules.specs.declared.quantities.CurveValue.the-variants.{On}
 
 -- what a curve gives, by its first segment or by the rest
 pub on-segment : (a b : Point) (rest : List Point) (x : ℕ) (P : CurveValue → Type 0) →

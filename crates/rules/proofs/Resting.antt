@@ -1,10 +1,9 @@
 -- The least water at rest: the height that passes the test where the one below it fails.
 use Prim.Native.Nat.{ℕ, suc, _*_, _≤_, _<_}
-use native.Mathlib.Nat.{le-trans}
 use native.Mathlib.Omega.{arith}
-use lib.Dec.{T, leb, leb→le, le→leb}
-use mathlib.Core.Bool.{Bool, true, false}
-use mathlib.Core.Option.{Option, none, some}
+use lib.Dec.{T, leb→le, le→leb}
+use mathlib.Core.Bool.{false}
+use mathlib.Core.Option.{none, some}
 use mathlib.Core.Path.{_≡_}
 use Rattle.numbers.specs.Division.{floor-mono}
 use Rattle.numbers.specs.Searches.{failed, least-found, least-none}

@@ -2,7 +2,7 @@
 use Prim.Native.Nat.{ℕ, suc, _≤_}
 use lib.Dec.{T, lit<, lit≤}
 use mathlib.Core.Bool.{false}
-use mathlib.Core.Option.{some, none}
+use mathlib.Core.Option.{some}
 use mathlib.Core.Path.{_≡_, refl}
 use Rattle.rules.specs.Quantities.{pressureOf}
 use Rattle.rules.specs.Curve.{falling}
@@ -11,18 +11,7 @@ use Rattle.rules.specs.Record.{recordSite, recordState}
 use Rattle.rules.specs.Start.{atMost, restingWater}
 use Rattle.rules.specs.Outcome.{answerNumber}
 use Rattle.rules.specs.Job.{described, jobSite}
-use Rattle.rules.specs.Specimen.{
-  Table,
-  specimen,
-  resting,
-  heavier,
-  openingNumber,
-  openedFrom,
-  numbersAfter,
-  stateAfter,
-  recordElements,
-  burdens,
-}
+use Rattle.rules.specs.Specimen.{Table, specimen, resting, heavier, openingNumber, openedFrom, numbersAfter, stateAfter, recordElements, recordBurdens}
 use Rattle.rules.proofs.Resting.{resting-found, resting-none}
 
 -- the site of the specimen in start 1
@@ -40,7 +29,7 @@ module _ (load W : ℕ) where
   rests small on passes fails = resting-found (restingSite load) tt 1_000_000 (lit< tt) load W small on passes fails
 
 pub table : Table
-unfolding specimen resting heavier openingNumber openedFrom numbersAfter stateAfter recordElements burdens effectiveStress recordSite
+unfolding specimen resting heavier openingNumber openedFrom numbersAfter stateAfter recordElements recordBurdens effectiveStress recordSite
     recordState pressureOf restingSite falling voidRatio atMost
 table = record {
   case-1-resistance = refl;

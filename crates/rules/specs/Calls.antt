@@ -1,6 +1,5 @@
 -- Calls on a record: what each answers and leaves.
-use Prim.Native.Nat.{ℕ}
-use mathlib.Core.Bool.{Bool, true, false}
+use mathlib.Core.Bool.{true, false}
 use mathlib.Core.List.{List, [], _∷_}
 use Rattle.rules.specs.Outcome.{outcome}
 use Rattle.rules.specs.Record.{recordSite, recordState, withEvents, isLayer}

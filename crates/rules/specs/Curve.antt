@@ -1,6 +1,6 @@
 -- Curves: points, and straight lines between them, rounded down from the first point.
--- On the compressibility curve the abscissa is the void ratio and the ordinate the effective stress;
--- on the conductivity curve the void ratio and the conductivity; on the load table the time and the load.
+-- On the compressibility curve the abscissa is the void ratio and the ordinate the effective stress, on the conductivity
+-- curve the void ratio and the conductivity. The load table has points of this form too, time and load; `Load` reads it.
 use Prim.Native.Nat.{ℕ, _+_, _-_, max, min}
 use lib.Dec.{leb, ltb}
 use lib.ListN.{take}

@@ -1,32 +1,25 @@
 -- The job's bytes: what they say, and the causes 1 to 8 for which they are refused.
 use Prim.Native.Nat.{ℕ, _+_, _*_}
 use lib.Dec.{ltb, eqb}
-use lib.IntN.{ℤ, pos}
+use lib.IntN.{pos}
 use lib.ListN.{length, getD, take, drop}
 use mathlib.Core.Bool.{Bool, true, false, not, _&&_, _||_}
 use mathlib.Core.List.{List, [], _∷_}
 use Rattle.numbers.specs.Arrays.{filled, zeros}
 use Rattle.numbers.specs.Bytes.{number}
 use Rattle.numbers.specs.Lists.{all}
-use Rattle.rules.specs.Quantities.{within, clockLimits, budgetLimits}
-use Rattle.rules.specs.Curve.{points, compressibilitySound, conductivitySound}
-use Rattle.rules.specs.Layer.{Site, drainedTop, drainedBottom}
+use Rattle.rules.specs.Quantities.{within, clockLimits, budgetLimits, head, pressure}
+use Rattle.rules.specs.Curve.{compressibilitySound, conductivitySound}
+use Rattle.rules.specs.Layer.{Site, topPressure, bottomPressure}
 use Rattle.rules.specs.Load.{tableSound}
-use Rattle.rules.specs.Record.{headerSound, sizesSound}
+use Rattle.rules.specs.Record.{headerSound, sizesSound, recordSite}
 use Rattle.rules.specs.Refusals.{Trial, _if_}
-use Rattle.rules.specs.declared.answers.Refusal.the-variants.{
-  ShortOrUnmarked,
-  OtherVersion,
-  HeaderOutside,
-  WrongLength,
-  FieldOutside,
-  CompressibilityCurve,
-  ConductivityCurve,
-  LoadTable,
-}
+use Rattle.rules.specs.declared.answers.Refusal.the-variants.{ShortOrUnmarked, OtherVersion, HeaderOutside, WrongLength, FieldOutside, CompressibilityCurve, ConductivityCurve, LoadTable}
 use Rattle.rules.specs.declared.job.Description.{Description}
 use Rattle.rules.specs.declared.quantities.Face.{Face}
-use Rattle.rules.specs.declared.quantities.Face.the-variants.{Closed}
+use Rattle.rules.specs.declared.quantities.Face.the-variants.{Closed, Drained}
+use Rattle.rules.specs.declared.quantities.Pressure.{Pressure}
+use Rattle.rules.specs.declared.record.Record.{Record}
 
 -- the number in a field: so many bytes from an offset, lowest first
 unfoldable pub field : (size offset : ℕ) → List ℕ → ℕ
@@ -53,7 +46,7 @@ unfoldable pub seconds : (size offset count : ℕ) → List ℕ → List ℕ
 unfolding firsts
 seconds size offset count job = firsts size (offset + 8) count job
 
--- what a job's bytes say
+-- what a job's bytes say, once cause 3 is tested
 unfoldable pub described : List ℕ → Description
 unfolding field firsts seconds
 described job =
@@ -88,23 +81,41 @@ described job =
     }
 
 -- the face that a number says: 0 is closed
-unfoldable pub numberedFace : (number : ℕ) (drained : Face) → Face
-numberedFace number drained = elim (eqb number 0) [ true ↦ Closed | false ↦ drained ]
+unfoldable pub numberedFace : (number : ℕ) (held : Pressure) → Face
+numberedFace number held = elim (eqb number 0) [ true ↦ Closed | false ↦ Drained held ]
+
+-- the record of a description, its state not yet set
+unfoldable pub describedRecord : Description → (startingWater : ℕ) → Record
+unfolding numberedFace topPressure bottomPressure zeros
+describedRecord d startingWater = record {
+  top = numberedFace d.top topPressure;
+  bottom = numberedFace d.bottom (bottomPressure (pos (d .«top_level»)) (pos (d .«bottom_level»)));
+  elements = d.elements;
+  «compressibility_points» = d .«compressibility_points»;
+  «conductivity_points» = d .«conductivity_points»;
+  «table_points» = d .«table_points»;
+  gravity = d.gravity;
+  «top_level» = head (pos (d .«top_level»));
+  «bottom_level» = head (pos (d .«bottom_level»));
+  solids = d.solids;
+  water = zeros 128;
+  «compressibility_stress» = d .«compressibility_stress»;
+  «compressibility_void» = d .«compressibility_void»;
+  «conductivity_void» = d .«conductivity_void»;
+  conductivity = d.conductivity;
+  «table_time» = d .«table_time»;
+  «table_load» = d .«table_load»;
+  load = pressure (pos 0);
+  clock = record { 0 = 0 };
+  «top_outflow» = pos 0;
+  «bottom_outflow» = pos 0;
+  «starting_water» = startingWater;
+}
 
 -- what a description fixes for good
 unfoldable pub jobSite : Description → Site
-unfolding points numberedFace drainedTop drainedBottom
-jobSite d = record {
-  solids = take d.elements d.solids;
-  compressibility = points (d .«compressibility_points») (d .«compressibility_void») (d .«compressibility_stress»);
-  conductivity = points (d .«conductivity_points») (d .«conductivity_void») d.conductivity;
-  loadTable = points (d .«table_points») (d .«table_time») (d .«table_load»);
-  top = numberedFace d.top drainedTop;
-  bottom = numberedFace d.bottom (drainedBottom (pos (d .«top_level»)) (pos (d .«bottom_level»)));
-  gravity = d.gravity;
-  topLevel = pos (d .«top_level»);
-  bottomLevel = pos (d .«bottom_level»);
-}
+unfolding recordSite describedRecord
+jobSite d = recordSite (describedRecord d 0)
 
 -- the water heights that it gives
 unfoldable pub givenWater : Description → List ℕ
@@ -122,22 +133,22 @@ unfoldable pub jobLength : Description → ℕ
 jobLength d =
     headerLength + pairLength * (d.elements + d .«compressibility_points» + d .«conductivity_points» + d .«table_points»)
 
--- causes 3 and 5 to 8, of a description
-unfoldable pub descriptionSound : Description → Bool
+-- cause 3, of a description: bytes 5 to 13 (it has no bytes 14 and 15)
+unfoldable pub headerKept : Description → Bool
 unfolding headerSound
-descriptionSound d =
+headerKept d =
     headerSound d.top d.bottom d.elements (d .«compressibility_points») (d .«conductivity_points») (d .«table_points») d.start
     d.gravity
 
 -- the causes 1 to 8 of a job, in their order
 unfoldable pub jobCauses : List ℕ → List Trial
-unfolding described marked field descriptionSound jobLength fieldsSound jobSite compressibilitySound conductivitySound tableSound
+unfolding described marked field headerKept jobLength fieldsSound jobSite compressibilitySound conductivitySound tableSound
 jobCauses job =
     let d = described job in
     let site = jobSite d in
     (ShortOrUnmarked if (ltb (length job) headerLength || not (marked job))) ∷
     (OtherVersion if not (eqb (field 2 3 job) 1)) ∷
-    (HeaderOutside if (not (descriptionSound d) || not (eqb (field 2 14 job) 0))) ∷
+    (HeaderOutside if (not (headerKept d) || not (eqb (field 2 14 job) 0))) ∷
     (WrongLength if not (eqb (length job) (jobLength d))) ∷
     (FieldOutside if not (fieldsSound d)) ∷
     (CompressibilityCurve if not (compressibilitySound (site .compressibility))) ∷

@@ -1,15 +1,14 @@
 -- The layer: what a job fixes for good, what calls change, and what is read of an element.
 use Prim.Native.Nat.{ℕ, _+_, _-_, _*_}
 use lib.IntN.{ℤ, pos, _+ℤ_, _-ℤ_}
-use mathlib.Core.Bool.{Bool, true, false}
 use mathlib.Core.List.{List, [], _∷_, map}
 use Rattle.numbers.specs.Rounding.{floor, ceil}
 use Rattle.numbers.specs.Sums.{sum}
 use Rattle.rules.specs.Quantities.{head, pressure, pressureOf}
-use Rattle.rules.specs.Curve.{Point, curveAt, valueOf, steepness}
+use Rattle.rules.specs.Curve.{Point, curveAt, valueOf}
 use Rattle.rules.specs.declared.quantities.CurveValue.{CurveValue}
 use Rattle.rules.specs.declared.quantities.Face.{Face}
-use Rattle.rules.specs.declared.quantities.Face.the-variants.{Closed, Drained}
+use Rattle.rules.specs.declared.quantities.Pressure.{Pressure}
 
 -- What a job fixes for good. Elements are listed from the lowest up.
 pub record Site : Type 0 where
@@ -31,14 +30,14 @@ pub record State : Type 0 where
   pub topOutflow : ℤ
   pub bottomOutflow : ℤ
 
--- a drained top holds 0
-unfoldable pub drainedTop : Face
-drainedTop = Drained (pressure (pos 0))
+-- what a drained top holds
+unfoldable pub topPressure : Pressure
+topPressure = pressure (pos 0)
 
--- a drained bottom holds P, the pressure of the head between the two levels
-unfoldable pub drainedBottom : (topLevel bottomLevel : ℤ) → Face
+-- P, what a drained bottom holds: the pressure of the head between the two levels
+unfoldable pub bottomPressure : (topLevel bottomLevel : ℤ) → Pressure
 unfolding pressureOf
-drainedBottom topLevel bottomLevel = Drained (pressureOf (head (bottomLevel -ℤ topLevel)))
+bottomPressure topLevel bottomLevel = pressureOf (head (bottomLevel -ℤ topLevel))
 
 -- L, of an element with solids height S and water height W
 abbrev pub height : (S W : ℕ) → ℕ
@@ -54,9 +53,9 @@ unfolding curveAt voidRatio
 effectiveStress site S W = curveAt site.compressibility (voidRatio S W)
 
 -- k
-unfoldable pub conductivity : Site → (S W : ℕ) → CurveValue
+unfoldable pub hydraulicConductivity : Site → (S W : ℕ) → CurveValue
 unfolding curveAt voidRatio
-conductivity site S W = curveAt site.conductivity (voidRatio S W)
+hydraulicConductivity site S W = curveAt site.conductivity (voidRatio S W)
 
 -- b, with specific gravity g in thousandths
 unfoldable pub buoyantWeight : (g S : ℕ) → ℕ
@@ -67,16 +66,21 @@ unfoldable pub burden : (g S : ℕ) (above : List ℕ) → ℕ
 unfolding buoyantWeight sum
 burden g S above = sum (map (buoyantWeight g) above) + floor (buoyantWeight g S) 2
 
+-- B of every element
+unfoldable pub burdens : (g : ℕ) (solids : List ℕ) → List ℕ
+unfolding burden
+burdens g [] = []
+burdens g (S ∷ above) = burden g S above ∷ burdens g above
+
 -- p
-unfoldable pub excessPressure : Site → (load : ℤ) (S W : ℕ) (above : List ℕ) → ℤ
-unfolding burden effectiveStress valueOf
-excessPressure site load S W above =
-    load +ℤ pos (burden site.gravity S above) -ℤ pos (valueOf (effectiveStress site S W))
+unfoldable pub excessPressure : Site → (load : ℤ) (B S W : ℕ) → ℤ
+unfolding effectiveStress valueOf
+excessPressure site load B S W = load +ℤ pos B -ℤ pos (valueOf (effectiveStress site S W))
 
 -- r, from an element's middle to its face
 unfoldable pub resistance : Site → (S W : ℕ) → ℕ
-unfolding conductivity valueOf ceil
-resistance site S W = ceil (4_905 * height S W) (valueOf (conductivity site S W))
+unfolding hydraulicConductivity valueOf ceil
+resistance site S W = ceil (4_905 * height S W) (valueOf (hydraulicConductivity site S W))
 
 -- c, the most by which a nanometre of water moves the void ratio
 unfoldable pub sensitivity : (S : ℕ) → ℕ
@@ -89,21 +93,22 @@ pub record Element : Type 0 where
   pub resistance : ℕ
   pub sensitivity : ℕ
 
-unfoldable pub element : Site → (load : ℤ) (S W : ℕ) (above : List ℕ) → Element
+unfoldable pub element : Site → (load : ℤ) (B S W : ℕ) → Element
 unfolding excessPressure resistance sensitivity
-element site load S W above = record {
-  excess = excessPressure site load S W above;
+element site load B S W = record {
+  excess = excessPressure site load B S W;
   resistance = resistance site S W;
   sensitivity = sensitivity S;
 }
 
-unfoldable pub elementsFrom : Site → (load : ℤ) (solids water : List ℕ) → List Element
+unfoldable pub elementsFrom : Site → (load : ℤ) (Bs Ss Ws : List ℕ) → List Element
 unfolding element
-elementsFrom site load [] Ws = []
-elementsFrom site load (S ∷ above) [] = []
-elementsFrom site load (S ∷ above) (W ∷ Ws) = element site load S W above ∷ elementsFrom site load above Ws
+elementsFrom site load [] Ss Ws = []
+elementsFrom site load (B ∷ Bs) [] Ws = []
+elementsFrom site load (B ∷ Bs) (S ∷ Ss) [] = []
+elementsFrom site load (B ∷ Bs) (S ∷ Ss) (W ∷ Ws) = element site load B S W ∷ elementsFrom site load Bs Ss Ws
 
 -- all elements of the layer
 unfoldable pub elements : Site → State → List Element
-unfolding elementsFrom
-elements site s = elementsFrom site s.load site.solids s.water
+unfolding elementsFrom burdens
+elements site s = elementsFrom site s.load (burdens site.gravity site.solids) site.solids s.water

@@ -15,4 +15,5 @@ pub mod Opening
 pub mod Calls
 pub mod Result
 pub mod Key
+pub mod Program
 pub mod Specimen

@@ -1,6 +1,6 @@
 -- Opening: from a job's bytes to a record.
 use Prim.Native.Nat.{ℕ}
-use lib.IntN.{ℤ, pos}
+use lib.IntN.{pos}
 use mathlib.Core.List.{List}
 use mathlib.Core.Option.{Option, none, some}
 use Rattle.numbers.specs.Arrays.{zeros}
@@ -9,9 +9,11 @@ use Rattle.rules.specs.Quantities.{head, pressure}
 use Rattle.rules.specs.Start.{startWater, openingLoad, openingState}
 use Rattle.rules.specs.Refusals.{firstCause}
 use Rattle.rules.specs.Record.{withState}
-use Rattle.rules.specs.Job.{described, jobSite, givenWater, jobCauses}
+use Rattle.rules.specs.Job.{described, describedRecord, jobSite, givenWater, jobCauses}
+use Rattle.rules.specs.Tally.{Course, course, begun}
 use Rattle.rules.specs.declared.answers.Answer.the-variants.{Done, Refused}
 use Rattle.rules.specs.declared.answers.Answered.{Answered}
+use Rattle.rules.specs.declared.answers.Call.{Call}
 use Rattle.rules.specs.declared.answers.Refusal.{Refusal}
 use Rattle.rules.specs.declared.answers.Refusal.the-variants.{StartOffCurve}
 use Rattle.rules.specs.declared.job.Description.{Description}
@@ -46,36 +48,6 @@ blankRecord = record {
   «starting_water» = 0;
 }
 
--- the record of a description, its state not yet set
-unfoldable pub describedRecord : Description → (startingWater : ℕ) → Record
-unfolding jobSite zeros
-describedRecord d startingWater =
-    let site = jobSite d in
-    record {
-      top = site .top;
-      bottom = site .bottom;
-      elements = d.elements;
-      «compressibility_points» = d .«compressibility_points»;
-      «conductivity_points» = d .«conductivity_points»;
-      «table_points» = d .«table_points»;
-      gravity = d.gravity;
-      «top_level» = head (site .topLevel);
-      «bottom_level» = head (site .bottomLevel);
-      solids = d.solids;
-      water = zeros 128;
-      «compressibility_stress» = d .«compressibility_stress»;
-      «compressibility_void» = d .«compressibility_void»;
-      «conductivity_void» = d .«conductivity_void»;
-      conductivity = d.conductivity;
-      «table_time» = d .«table_time»;
-      «table_load» = d .«table_load»;
-      load = pressure (pos 0);
-      clock = record { 0 = 0 };
-      «top_outflow» = pos 0;
-      «bottom_outflow» = pos 0;
-      «starting_water» = startingWater;
-    }
-
 -- the record of a description, opened with the water of its start
 unfoldable pub openedRecord : Description → (water : List ℕ) → Record
 unfolding describedRecord withState openingState jobSite sum
@@ -101,3 +73,9 @@ opening job =
         | some water ↦ record { answer = Done; after = openedRecord (described job) water }
       ]
     ]
+
+-- the tally of a job that is fed a list of calls; none where its start is refused
+unfoldable pub jobCourse : Description → List Call → Option Course
+unfolding descriptionWater course begun jobSite
+jobCourse d calls =
+    elim (descriptionWater d) [ none ↦ none | some water ↦ some (course (jobSite d) calls (begun (jobSite d) water)) ]

@@ -3,35 +3,21 @@ use Prim.Native.Nat.{ℕ, _*_}
 use lib.Dec.{leb}
 use lib.IntN.{ℤ, pos, natAbs, _+ℤ_}
 use lib.ListN.{take}
-use mathlib.Core.Bool.{Bool, true, false, _&&_}
+use mathlib.Core.Bool.{Bool, true, _&&_}
 use mathlib.Core.List.{List, [], _∷_, map}
 use Rattle.numbers.specs.Arrays.{overlaid}
 use Rattle.numbers.specs.Integers.{eqℤ}
 use Rattle.numbers.specs.Lists.{all}
 use Rattle.numbers.specs.Sums.{sum}
-use Rattle.rules.specs.Quantities.{
-  within,
-  withinℤ,
-  stressLimits,
-  levelLimits,
-  clockLimits,
-  solidsLimits,
-  waterLimits,
-  gravityLimits,
-  elementLimits,
-  curveLimits,
-  tableLimits,
-  flagLimits,
-  startingWaterLimits,
-  pressure,
-}
+use Rattle.rules.specs.Quantities.{within, withinℤ, stressLimits, levelLimits, clockLimits, solidsLimits, waterLimits, gravityLimits, elementLimits, curveLimits, tableLimits, flagLimits, startingWaterLimits, pressure}
 use Rattle.rules.specs.Curve.{points, compressibilitySound, conductivitySound}
-use Rattle.rules.specs.Layer.{Site, State, drainedTop, drainedBottom}
+use Rattle.rules.specs.Layer.{Site, State, topPressure, bottomPressure}
 use Rattle.rules.specs.Step.{allOnCurve}
 use Rattle.rules.specs.Load.{tableSound}
-use Rattle.rules.specs.Run.{Event, after}
+use Rattle.rules.specs.Run.{Event, afterEvents}
 use Rattle.rules.specs.declared.quantities.Face.{Face}
 use Rattle.rules.specs.declared.quantities.Face.the-variants.{Closed, Drained}
+use Rattle.rules.specs.declared.quantities.Pressure.{Pressure}
 use Rattle.rules.specs.declared.record.Record.{Record}
 
 -- the job's number of a face
@@ -42,7 +28,7 @@ faceNumber (Drained held) = 1
 -- cause 3, of the numbers of a job's bytes 5 to 13
 unfoldable pub headerSound :
     (top bottom elements compressibilityPoints conductivityPoints tablePoints start gravity : ℕ) → Bool
-unfolding within all
+unfolding within
 headerSound top bottom elements compressibilityPoints conductivityPoints tablePoints start gravity =
     within flagLimits top && within flagLimits bottom && within elementLimits elements &&
     within curveLimits compressibilityPoints && within curveLimits conductivityPoints && within tableLimits tablePoints &&
@@ -115,15 +101,14 @@ withState r s = record {
 
 -- the record after events: the same record after none
 unfoldable pub withEvents : Record → List Event → Record
-unfolding withState after recordSite recordState
+unfolding withState afterEvents recordSite recordState
 withEvents r [] = r
-withEvents r (e ∷ rest) = withState r (after (recordSite r) (e ∷ rest) (recordState r))
+withEvents r (e ∷ rest) = withState r (afterEvents (recordSite r) (e ∷ rest) (recordState r))
 
--- a face is closed, or holds the same pressure as another
-unfoldable pub holds : Face → Face → Bool
-holds Closed other = true
-holds (Drained held) Closed = false
-holds (Drained held) (Drained other) = eqℤ (held .0) (other .0)
+-- a face is closed, or holds a pressure
+unfoldable pub faceHolds : Face → Pressure → Bool
+faceHolds Closed held = true
+faceHolds (Drained other) held = eqℤ (other .0) (held .0)
 
 -- an outflow keeps its bound
 unfoldable pub outflowSound : (outflow : ℤ) (clock : ℕ) → Bool
@@ -131,8 +116,8 @@ outflowSound outflow clock = leb (natAbs outflow) (2_300_000_000 * clock)
 
 -- a record is a layer
 unfoldable pub isLayer : Record → Bool
-unfolding recordSite recordState headerSound faceNumber sizesSound compressibilitySound conductivitySound tableSound holds
-    drainedTop drainedBottom allOnCurve within withinℤ sum outflowSound
+unfolding recordSite recordState headerSound faceNumber sizesSound compressibilitySound conductivitySound tableSound faceHolds
+    topPressure bottomPressure allOnCurve within withinℤ sum outflowSound
 isLayer r =
     let site = recordSite r in
     let s = recordState r in
@@ -140,7 +125,7 @@ isLayer r =
     (r .«table_points») 0 r.gravity &&
     sizesSound site (s .water) && compressibilitySound (site .compressibility) &&
     conductivitySound (site .conductivity) (site .compressibility) && tableSound (site .loadTable) &&
-    holds r.top drainedTop && holds r.bottom (drainedBottom (site .topLevel) (site .bottomLevel)) &&
+    faceHolds r.top topPressure && faceHolds r.bottom (bottomPressure (site .topLevel) (site .bottomLevel)) &&
     allOnCurve site (map pos (s .water)) && withinℤ stressLimits (s .load) && within clockLimits (s .clock) &&
     within startingWaterLimits (r .«starting_water») &&
     eqℤ (pos (r .«starting_water»)) (pos (sum (s .water)) +ℤ s .topOutflow +ℤ s .bottomOutflow) &&

@@ -3,18 +3,17 @@ use Prim.Native.Nat.{ℕ, _+_, _*_}
 use lib.Dec.{ltb}
 use lib.IntN.{ℤ, pos, _+ℤ_, _-ℤ_}
 use lib.ListN.{length}
-use mathlib.Core.Bool.{Bool, true, false, not}
+use mathlib.Core.Bool.{not}
 use mathlib.Core.List.{List, [], _∷_, _++_}
 use mathlib.Core.Option.{Option, none, some}
 use Rattle.numbers.specs.Arrays.{overlaid}
 use Rattle.numbers.specs.Bytes.{bytes}
 use Rattle.numbers.specs.Integers.{signedField}
-use Rattle.numbers.specs.Lists.{paired}
 use Rattle.numbers.specs.Rounding.{floor}
 use Rattle.numbers.specs.Sums.{sum}
 use Rattle.rules.specs.Quantities.{head, pressureOf}
 use Rattle.rules.specs.Curve.{valueOf}
-use Rattle.rules.specs.Layer.{Site, height, voidRatio, effectiveStress, excessPressure}
+use Rattle.rules.specs.Layer.{Site, height, voidRatio, effectiveStress, burdens, excessPressure}
 use Rattle.rules.specs.Record.{recordSite, recordState, isLayer}
 use Rattle.rules.specs.Refusals.{_if_, firstCause, refusalNumber}
 use Rattle.rules.specs.Run.{stopNumber}
@@ -29,28 +28,29 @@ unfoldable pub nodeHeight : (below S W : ℕ) → ℕ
 nodeHeight below S W = below + floor (height S W) 2
 
 -- the pore pressure at an element's node
-unfoldable pub porePressure : Site → (load : ℤ) (below S W : ℕ) (above : List ℕ) → ℤ
+unfoldable pub porePressure : Site → (load : ℤ) (below B S W : ℕ) → ℤ
 unfolding excessPressure pressureOf nodeHeight
-porePressure site load below S W above =
-    excessPressure site load S W above +ℤ (pressureOf (head (site.topLevel -ℤ pos (nodeHeight below S W)))) .0
+porePressure site load below B S W =
+    excessPressure site load B S W +ℤ (pressureOf (head (site.topLevel -ℤ pos (nodeHeight below S W)))) .0
 
 abbrev pub word : ℕ → List ℕ
 word n = bytes 8 n
 
 -- W, E, effective stress, total stress and pore pressure of an element
-unfoldable pub elementBytes : Site → (load : ℤ) (below S W : ℕ) (above : List ℕ) → List ℕ
+unfoldable pub elementBytes : Site → (load : ℤ) (below B S W : ℕ) → List ℕ
 unfolding voidRatio effectiveStress valueOf porePressure bytes
-elementBytes site load below S W above =
+elementBytes site load below B S W =
     let effective = valueOf (effectiveStress site S W) in
-    let pore = porePressure site load below S W above in
+    let pore = porePressure site load below B S W in
     word W ++ word (voidRatio S W) ++ word effective ++ word (signedField (pore +ℤ pos effective)) ++ word (signedField pore)
 
-unfoldable pub elementsBytes : Site → (load : ℤ) (below : ℕ) (solids water : List ℕ) → List ℕ
+unfoldable pub elementsBytes : Site → (load : ℤ) (below : ℕ) (Bs Ss Ws : List ℕ) → List ℕ
 unfolding elementBytes
-elementsBytes site load below [] Ws = []
-elementsBytes site load below (S ∷ above) [] = []
-elementsBytes site load below (S ∷ above) (W ∷ Ws) =
-    elementBytes site load below S W above ++ elementsBytes site load (below + height S W) above Ws
+elementsBytes site load below [] Ss Ws = []
+elementsBytes site load below (B ∷ Bs) [] Ws = []
+elementsBytes site load below (B ∷ Bs) (S ∷ Ss) [] = []
+elementsBytes site load below (B ∷ Bs) (S ∷ Ss) (W ∷ Ws) =
+    elementBytes site load below B S W ++ elementsBytes site load (below + height S W) Bs Ss Ws
 
 -- the starting height less the present one
 unfoldable pub settlement : Record → ℤ
@@ -61,23 +61,24 @@ settlement r =
 
 -- the result of a record, a run's stop and its number of steps
 unfoldable pub resultBytes : Record → Stop → (steps : ℕ) → List ℕ
-unfolding bytes stopNumber settlement recordSite recordState elementsBytes
+unfolding bytes stopNumber settlement recordSite recordState elementsBytes burdens
 resultBytes r stop steps =
     let site = recordSite r in
     let s = recordState r in
     (76 ∷ 83 ∷ 82 ∷ []) ++ bytes 2 1 ++ bytes 1 (stopNumber stop) ++ bytes 1 r.elements ++ bytes 1 0 ++
     word (s .clock) ++ word steps ++ word (signedField (s .load)) ++ word (signedField (s .topOutflow)) ++
     word (signedField (s .bottomOutflow)) ++ word (signedField (settlement r)) ++
-    elementsBytes site (s .load) 0 (site .solids) (s .water)
+    elementsBytes site (s .load) 0 (burdens (site .gravity) (site .solids)) (site .solids) (s .water)
 
-unfoldable pub resultLength : Record → ℕ
-resultLength r = 56 + 40 * r.elements
+-- the length of a result of so many elements
+unfoldable pub resultSize : (elements : ℕ) → ℕ
+resultSize elements = 56 + 40 * elements
 
 -- why a result is refused, if it is: 11, then 10
 unfoldable pub resultRefusal : Record → (room : ℕ) → Option Refusal
-unfolding firstCause isLayer resultLength
+unfolding firstCause isLayer resultSize
 resultRefusal r room =
-    firstCause ((NoLayer if not (isLayer r)) ∷ (ShortBuffer if ltb room (resultLength r)) ∷ [])
+    firstCause ((NoLayer if not (isLayer r)) ∷ (ShortBuffer if ltb room (resultSize r.elements)) ∷ [])
 
 -- the number returned, and the buffer as it is left
 pub record Returned : Type 0 where

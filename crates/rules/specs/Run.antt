@@ -2,7 +2,7 @@
 use Prim.Native.Nat.{ℕ, zero, suc, _-_, min}
 use lib.Dec.{ltb, eqb}
 use lib.IntN.{ℤ}
-use mathlib.Core.Bool.{Bool, true, false, not, _||_}
+use mathlib.Core.Bool.{true, false, not, _||_}
 use mathlib.Core.List.{List, [], _∷_}
 use mathlib.Core.Option.{Option}
 use Rattle.numbers.specs.Lists.{greatest}
@@ -34,10 +34,10 @@ unfolding withLoad stepped
 afterEvent site (loadSet load) s = withLoad load s
 afterEvent site (stepTaken t) s = stepped site t s
 
-unfoldable pub after : Site → List Event → State → State
+unfoldable pub afterEvents : Site → List Event → State → State
 unfolding afterEvent
-after site [] s = s
-after site (e ∷ rest) s = after site rest (afterEvent site e s)
+afterEvents site [] s = s
+afterEvents site (e ∷ rest) s = afterEvents site rest (afterEvent site e s)
 
 -- the number of steps among events
 unfoldable pub stepCount : List Event → ℕ

@@ -1,17 +1,17 @@
 -- The specimen, and the nine cases of the proved table. Each case opens the specimen anew from its bytes.
 use Prim.Native.Nat.{ℕ}
-use lib.IntN.{ℤ, pos, negsuc, negℤ}
+use lib.IntN.{pos, negℤ}
 use mathlib.Core.List.{List, [], _∷_, _++_, map}
 use mathlib.Core.Path.{_≡_}
 use Rattle.numbers.specs.Bytes.{bytes}
 use Rattle.rules.specs.Quantities.{head, pressure, pressureOf}
-use Rattle.rules.specs.Layer.{Site, State, Element, elements, effectiveStress, burden}
+use Rattle.rules.specs.Layer.{State, Element, elements, effectiveStress, burdens}
 use Rattle.rules.specs.Outcome.{answerNumber}
 use Rattle.rules.specs.Record.{recordSite, recordState}
 use Rattle.rules.specs.Opening.{opening}
 use Rattle.rules.specs.Calls.{Replay, replayed}
 use Rattle.rules.specs.declared.answers.Call.{Call}
-use Rattle.rules.specs.declared.answers.Call.the-variants.{Load, Step, Run}
+use Rattle.rules.specs.declared.answers.Call.the-variants.{Load, Step}
 use Rattle.rules.specs.declared.quantities.CurveValue.the-variants.{On}
 use Rattle.rules.specs.declared.record.Record.{Record}
 
@@ -68,14 +68,9 @@ unfoldable pub recordElements : Record → List Element
 unfolding elements recordSite recordState
 recordElements r = elements (recordSite r) (recordState r)
 
-unfoldable pub burdensFrom : (gravity : ℕ) (solids : List ℕ) → List ℕ
-unfolding burden
-burdensFrom gravity [] = []
-burdensFrom gravity (S ∷ above) = burden gravity S above ∷ burdensFrom gravity above
-
-unfoldable pub burdens : Record → List ℕ
-unfolding burdensFrom recordSite
-burdens r = burdensFrom ((recordSite r) .gravity) ((recordSite r) .solids)
+unfoldable pub recordBurdens : Record → List ℕ
+unfolding burdens recordSite
+recordBurdens r = burdens ((recordSite r) .gravity) ((recordSite r) .solids)
 
 pub record Table : Type 0 where
   pub case-1-resistance : map (λ e. e .resistance) (recordElements (openedFrom specimen)) ≡ 73_575 ∷ 73_575 ∷ []
@@ -95,6 +90,6 @@ pub record Table : Type 0 where
   pub case-7-water : (recordState (openedFrom (resting 105_000_000))) .water ≡ 1_000_000 ∷ 1_000_000 ∷ []
   pub case-7-above : openingNumber (resting 105_000_001) ≡ 9
   pub case-7-below : openingNumber (resting 4_999_999) ≡ 9
-  pub case-8-burden : burdens (openedFrom heavier) ≡ 23_691 ∷ 7_897 ∷ []
+  pub case-8-burden : recordBurdens (openedFrom heavier) ≡ 23_691 ∷ 7_897 ∷ []
   pub case-9-positive : pressureOf (head (pos 1_000_000)) ≡ pressure (pos 9_810)
   pub case-9-negative : pressureOf (head (negℤ (pos 50_000))) ≡ pressure (negℤ (pos 490))

@@ -1,14 +1,14 @@
 -- Start: where the water heights of an opened layer come from.
 use Prim.Native.Nat.{ℕ, suc, _+_}
 use lib.Dec.{leb, eqb}
-use lib.IntN.{ℤ, pos}
+use lib.IntN.{pos}
 use mathlib.Core.Bool.{Bool, true, false}
 use mathlib.Core.List.{List, [], _∷_, map}
 use mathlib.Core.Option.{Option, none, some}
 use Rattle.numbers.specs.Lists.{least, lastOr}
 use Rattle.rules.specs.Quantities.{waterLimits}
 use Rattle.rules.specs.Curve.{Point, point}
-use Rattle.rules.specs.Layer.{Site, State, effectiveStress, burden}
+use Rattle.rules.specs.Layer.{Site, State, effectiveStress, burdens}
 use Rattle.rules.specs.Step.{allOnCurve}
 use Rattle.rules.specs.Load.{firstPoint}
 use Rattle.rules.specs.declared.quantities.CurveValue.{CurveValue}
@@ -39,24 +39,25 @@ prepended none rest = none
 prepended (some a) none = none
 prepended (some a) (some rest) = some (a ∷ rest)
 
--- the resting water of each element, under load + B, where that is not above the last stress
-unfoldable pub restingFrom : Site → (load : ℕ) (solids : List ℕ) → Option (List ℕ)
-unfolding burden lastStress prepended
-restingFrom site load [] = some []
-restingFrom site load (S ∷ above) =
-    let stress = load + burden site.gravity S above in
-    elim (leb stress (lastStress site.compressibility)) [
-      | true ↦ prepended (restingWater site S stress) (restingFrom site load above)
+-- the resting water of each element under load + B, where that is not above the last stress
+-- (`restingWater` stays shut here: a search over a billion heights is cited and never computed)
+unfoldable pub restingFrom : Site → (load : ℕ) (Bs Ss : List ℕ) → Option (List ℕ)
+unfolding lastStress prepended
+restingFrom site load [] Ss = some []
+restingFrom site load (B ∷ Bs) [] = some []
+restingFrom site load (B ∷ Bs) (S ∷ Ss) =
+    elim (leb (load + B) (lastStress site.compressibility)) [
+      | true ↦ prepended (restingWater site S (load + B)) (restingFrom site load Bs Ss)
       | false ↦ none
     ]
 
 -- the water of start 0, as given, and of start 1, at rest under a load; none where cause 9 holds
 unfoldable pub startWater : Site → (start : ℕ) (given : List ℕ) (load : ℕ) → Option (List ℕ)
-unfolding allOnCurve restingFrom
+unfolding allOnCurve restingFrom burdens
 startWater site start given load =
     elim (eqb start 0) [
       | true ↦ elim (allOnCurve site (map pos given)) [ true ↦ some given | false ↦ none ]
-      | false ↦ restingFrom site load site.solids
+      | false ↦ restingFrom site load (burdens site.gravity site.solids) site.solids
     ]
 
 -- the state of a layer just opened with some water

@@ -2,7 +2,7 @@
 use Prim.Native.Nat.{ℕ, _+_, _*_}
 use lib.Dec.{ltb}
 use lib.IntN.{ℤ, pos, negsuc, negℤ, natAbs, _+ℤ_, _-ℤ_, _*ℤ_}
-use mathlib.Core.Bool.{Bool, true, false, not, _||_}
+use mathlib.Core.Bool.{Bool, false, not, _||_}
 use mathlib.Core.List.{List, [], _∷_, _++_, map}
 use mathlib.Core.Option.{Option}
 use Rattle.numbers.specs.Rounding.{cut}
@@ -54,7 +54,7 @@ moved (below ∷ []) ws = []
 moved (below ∷ above ∷ rest) [] = []
 moved (below ∷ above ∷ rest) (w ∷ ws) = (pos w -ℤ above +ℤ below) ∷ moved (above ∷ rest) ws
 
--- the state after a step
+-- the state after a step; of an accepted one, no new height is negative
 unfoldable pub stepped : Site → (t : ℕ) → State → State
 unfolding upwardFlows elements moved firstOr lastOr
 stepped site t s =
@@ -75,10 +75,10 @@ stressSlope site = steepness site.compressibility
 -- an element with an inner or drained face of it: the element's c and the face's R
 pub record Contact : Type 0 where
   pub sensitivity : ℕ
-  pub resistance : ℕ
+  pub faceResistance : ℕ
 
 abbrev pub contact : Element → ℕ → Contact
-contact e R = record { sensitivity = e.sensitivity; resistance = R }
+contact e R = record { sensitivity = e.sensitivity; faceResistance = R }
 
 unfoldable pub outerContacts : Face → Element → List Contact
 unfolding outerResistance
@@ -102,7 +102,7 @@ contacts site (e ∷ rest) = outerContacts site.bottom e ++ contactsAbove site.t
 unfoldable pub tooLong : Site → State → (t : ℕ) → Bool
 unfolding any contacts elements stressSlope
 tooLong site s t =
-    any (λ c. ltb (c .resistance) (2 * c .sensitivity * stressSlope site * t)) (contacts site (elements site s))
+    any (λ c. ltb (c .faceResistance) (2 * c .sensitivity * stressSlope site * t)) (contacts site (elements site s))
 
 -- a water height is on the curve
 unfoldable pub onCurve : Site → (S : ℕ) (W : ℤ) → Bool

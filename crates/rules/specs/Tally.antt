@@ -2,15 +2,13 @@
 use Prim.Native.Nat.{ℕ, _+_}
 use lib.IntN.{ℤ, _-ℤ_}
 use mathlib.Core.List.{List, [], _∷_, _++_, map}
+use Rattle.numbers.specs.Integers.{up}
 use Rattle.numbers.specs.Lists.{paired}
-use Rattle.numbers.specs.Signed.{up}
 use Rattle.numbers.specs.Sums.{sum}
-use Rattle.rules.specs.Layer.{Site, State, Element, elements, height}
-use Rattle.rules.specs.Step.{stepped}
-use Rattle.rules.specs.Load.{withLoad}
-use Rattle.rules.specs.Run.{Event, loadSet, stepTaken, afterEvent, after}
+use Rattle.rules.specs.Layer.{Site, State, elements, height}
+use Rattle.rules.specs.Run.{Event, loadSet, stepTaken, afterEvent}
 use Rattle.rules.specs.Start.{openingState}
-use Rattle.rules.specs.Outcome.{Outcome, outcome}
+use Rattle.rules.specs.Outcome.{outcome}
 use Rattle.rules.specs.declared.answers.Answer.{Answer}
 use Rattle.rules.specs.declared.answers.Call.{Call}
 
@@ -26,21 +24,21 @@ unfoldable pub begun : Site → (water : List ℕ) → Tally
 unfolding openingState
 begun site water = record { solids = site.solids; state = openingState site water; rises = 0; falls = 0 }
 
--- by how much one number is above another
-abbrev pub above : ℤ → ℤ → ℕ
-above a b = up (a -ℤ b)
+-- by how much a load rises to another, 0 where it does not
+abbrev pub rise : (load new : ℤ) → ℕ
+rise load new = up (new -ℤ load)
 
 -- an event on the tally: a load set adds to the rises or to the falls
 unfoldable pub recorded : Site → Event → Tally → Tally
-unfolding withLoad stepped
+unfolding afterEvent
 recorded site (loadSet load) y = record {
   solids = y.solids;
-  state = withLoad load y.state;
-  rises = y.rises + above load (y .state .load);
-  falls = y.falls + above (y .state .load) load;
+  state = afterEvent site (loadSet load) (y .state);
+  rises = y.rises + rise (y .state .load) load;
+  falls = y.falls + rise load (y .state .load);
 }
 recorded site (stepTaken t) y =
-    record { solids = y.solids; state = stepped site t y.state; rises = y.rises; falls = y.falls }
+    record { solids = y.solids; state = afterEvent site (stepTaken t) (y .state); rises = y.rises; falls = y.falls }
 
 unfoldable pub tallied : Site → List Event → Tally → Tally
 unfolding recorded
@@ -67,11 +65,11 @@ pub record StepTrace : Type 0 where
   pub later : State
 
 unfoldable pub stepTraces : Site → List Event → State → List StepTrace
-unfolding withLoad stepped
+unfolding afterEvent
 stepTraces site [] s = []
-stepTraces site (loadSet load ∷ rest) s = stepTraces site rest (withLoad load s)
+stepTraces site (loadSet load ∷ rest) s = stepTraces site rest (afterEvent site (loadSet load) s)
 stepTraces site (stepTaken t ∷ rest) s =
-    record { before = s; later = stepped site t s } ∷ stepTraces site rest (stepped site t s)
+    record { before = s; later = afterEvent site (stepTaken t) s } ∷ stepTraces site rest (afterEvent site (stepTaken t) s)
 
 -- the excess pressures of a state; of the first, they are the starting excesses
 unfoldable pub excesses : Site → State → List ℤ

@@ -1,4 +1,4 @@
-// What a job's bytes say, before any of it is tested. Array places past a count are 0.
+// What a job's bytes say, once its counts are tested. Array places past a count are 0.
 pub struct Description {
     pub top: u8,
     pub bottom: u8,
