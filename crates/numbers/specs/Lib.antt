@@ -10,6 +10,7 @@ pub mod Arrays
 pub mod Signed
 pub mod Division
 pub mod Interval
+pub mod Quotients
 -- laws of interpolation
 pub mod Share
 -- laws of tests and searches

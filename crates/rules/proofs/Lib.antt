@@ -1,4 +1,5 @@
 -- What is proved of the rules here: the least water at rest, and the specimen's table.
+pub mod Limits
 pub mod Falling
 pub mod Resting
 pub mod Specimen
