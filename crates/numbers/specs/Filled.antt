@@ -6,7 +6,7 @@ use native.Mathlib.Omega.{arith}
 use mathlib.Core.List.{List, [], _∷_, _++_, append-nil}
 use mathlib.Core.Path.{_≡_, refl, ap, _∙_}
 use lib.ListN.{length, take, drop, getD, set, length-append, length-drop, length-replicate, drop-of-length-le, List·getD-append}
-use lib.Seq.{take-append-le, take-at, drop-append-add, getD-append-add, getD-drop, drop-drop}
+use lib.Seq.{drop-cons, take-append-le, take-at, drop-append-add, getD-append-add, getD-drop, drop-drop}
 use Rattle.numbers.specs.Arrays.{tabulate, overlaid, filled, zeros}
 
 module _ {A : Type 0} where
@@ -38,6 +38,14 @@ module _ {A : Type 0} where
   tabulate-getD zero xs d h = refl
   tabulate-getD (suc n) [] d h = absurd (not-suc-le-zero h)
   tabulate-getD (suc n) (x ∷ xs) d h = ap (λ (r : List A). x ∷ r) (tabulate-getD n xs d (le-of-suc-le-suc h))
+
+  -- from an index on: the element there and the rest, or nothing
+  pub drop-tabulate : (n : ℕ) (f : ℕ → A) (i : ℕ) → i < n → drop i (tabulate n f) ≡ f i ∷ drop (i + 1) (tabulate n f)
+  drop-tabulate n f i h =
+      rw (add-one i, drop-cons (tabulate n f) i (f i) (rw (length-tabulate n f) h), getD-tabulate n f i (f i) h)
+
+  pub drop-tabulate-end : (n : ℕ) (f : ℕ → A) (i : ℕ) → n ≤ i → drop i (tabulate n f) ≡ []
+  drop-tabulate-end n f i h = drop-of-length-le (tabulate n f) {i = i} (rw (length-tabulate n f) h)
 
   -- ---- overlaid
 

@@ -4,9 +4,11 @@ use native.Mathlib.Omega.{arith}
 use lib.Dec.{T, ltb}
 use borrow.Author.Tests.{ltb-true, ltb-false}
 use mathlib.Core.Bool.{Bool, true, false, not, _&&_}
+use lib.ListN.{drop}
+use mathlib.Core.List.{List, [], _∷_}
 use mathlib.Core.Option.{Option, none, some}
 use mathlib.Core.Path.{_≡_, refl, sym, ap, subst}
-use Rattle.numbers.specs.Lists.{least}
+use Rattle.numbers.specs.Lists.{all, neighbours, least}
 
 -- a test that passed, and one that failed
 pub passed : {b : Bool} → b ≡ true → T b
@@ -57,3 +59,18 @@ module _ (test : ℕ → Bool) where
           _≡_ {A = Option ℕ} (elim c [ true ↦ some n | false ↦ least count (suc n) test ]) none
       go true e ih = absurd (never n (passed e))
       go false e ih = ih
+
+-- every entry passes, and every two neighbours pass, from an index on too
+pub all-drop : {A : Type 0} (test : A → Bool) (l : List A) (i : ℕ) → T (all test l) → T (all test (drop i l))
+unfolding all
+all-drop test l zero t = t
+all-drop test [] (suc i) t = tt
+all-drop test (a ∷ rest) (suc i) t = all-drop test rest i (both (test a) (all test rest) t .1)
+
+pub neighbours-drop : {A : Type 0} (test : A → A → Bool) (l : List A) (i : ℕ) → T (neighbours test l) → T (neighbours test (drop i l))
+unfolding neighbours
+neighbours-drop test l zero t = t
+neighbours-drop test [] (suc i) t = tt
+neighbours-drop test (a ∷ []) (suc zero) t = tt
+neighbours-drop test (a ∷ []) (suc (suc i)) t = tt
+neighbours-drop test (a ∷ b ∷ rest) (suc i) t = neighbours-drop test (b ∷ rest) i (both (test a b) (neighbours test (b ∷ rest)) t .1)

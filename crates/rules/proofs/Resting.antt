@@ -3,12 +3,13 @@ use Prim.Native.Nat.{ℕ, suc, _*_, _≤_, _<_}
 use native.Mathlib.Omega.{arith}
 use lib.Dec.{T, leb→le, le→leb}
 use mathlib.Core.Bool.{false}
+use mathlib.Core.List.{List}
 use mathlib.Core.Option.{none, some}
 use mathlib.Core.Path.{_≡_}
 use Rattle.numbers.specs.Division.{floor-mono}
 use Rattle.numbers.specs.Searches.{failed, least-found, least-none}
-use Rattle.rules.specs.Curve.{curveAt, isOn, valueOf, falling}
-use Rattle.rules.specs.Layer.{Site, voidRatio, effectiveStress}
+use Rattle.rules.specs.Curve.{Point, curveAt, isOn, valueOf, falling}
+use Rattle.rules.specs.Layer.{voidRatio, effectiveStress}
 use Rattle.rules.specs.Start.{atMost, restingWater}
 use Rattle.rules.specs.declared.quantities.CurveValue.{CurveValue}
 use Rattle.rules.specs.declared.quantities.CurveValue.the-variants.{On, Off}
@@ -32,31 +33,31 @@ pub void-ratio-mono : (S : ℕ) → 0 < S → (U W : ℕ) → U ≤ W → voidRa
 unfolding voidRatio
 void-ratio-mono S h U W k = floor-mono h (U * 100_000_000) (W * 100_000_000) (omega arith)
 
-module _ (site : Site) (falls : T (falling site.compressibility)) (S : ℕ) (solid : 0 < S) (stress : ℕ) where
+module _ (curve : List Point) (falls : T (falling curve)) (S : ℕ) (solid : 0 < S) (stress : ℕ) where
   -- up to the curve's first void ratio, what passes the test passes it with more water too
-  pub at-most-mono : (U W : ℕ) → U ≤ W → voidRatio S W ≤ firstAbscissa site.compressibility →
-      T (atMost (effectiveStress site S U) stress) → T (atMost (effectiveStress site S W) stress)
+  pub at-most-mono : (U W : ℕ) → U ≤ W → voidRatio S W ≤ firstAbscissa curve →
+      T (atMost (effectiveStress curve S U) stress) → T (atMost (effectiveStress curve S W) stress)
   unfolding effectiveStress
   at-most-mono U W h k t =
-      let on = at-most-parts (curveAt site.compressibility (voidRatio S U)) stress t .0 in
-      let (on′, lower) = never-rises site.compressibility (voidRatio S U) (voidRatio S W) falls (void-ratio-mono S solid U W h) k on in
-      at-most-lower (curveAt site.compressibility (voidRatio S U)) (curveAt site.compressibility (voidRatio S W)) stress on′ lower t
+      let on = at-most-parts (curveAt curve (voidRatio S U)) stress t .0 in
+      let (on′, lower) = never-rises curve (voidRatio S U) (voidRatio S W) falls (void-ratio-mono S solid U W h) k on in
+      at-most-lower (curveAt curve (voidRatio S U)) (curveAt curve (voidRatio S W)) stress on′ lower t
 
-  pub resting-found : (W : ℕ) → suc W ≤ 1_000_000_000 → voidRatio S W ≤ firstAbscissa site.compressibility →
-      T (atMost (effectiveStress site S (suc W)) stress) → atMost (effectiveStress site S W) stress ≡ false →
-      restingWater site S stress ≡ some (suc W)
+  pub resting-found : (W : ℕ) → suc W ≤ 1_000_000_000 → voidRatio S W ≤ firstAbscissa curve →
+      T (atMost (effectiveStress curve S (suc W)) stress) → atMost (effectiveStress curve S W) stress ≡ false →
+      restingWater curve S stress ≡ some (suc W)
   unfolding restingWater
   resting-found W small on passes fails =
-      least-found (λ U. atMost (effectiveStress site S U) stress) 1_000_000_001 0 (suc W) passes
-      (λ U h t. failed (atMost (effectiveStress site S W) stress) fails (at-most-mono U W (omega arith) on t))
+      least-found (λ U. atMost (effectiveStress curve S U) stress) 1_000_000_001 0 (suc W) passes
+      (λ U h t. failed (atMost (effectiveStress curve S W) stress) fails (at-most-mono U W (omega arith) on t))
       (omega arith)
       (omega arith)
 
   -- no height rests under a stress below the curve's first
-  pub resting-none : stress < firstOrdinate site.compressibility → restingWater site S stress ≡ none
+  pub resting-none : stress < firstOrdinate curve → restingWater curve S stress ≡ none
   unfolding restingWater effectiveStress
   resting-none h =
-      least-none (λ U. atMost (effectiveStress site S U) stress) 1_000_000_001 0
+      least-none (λ U. atMost (effectiveStress curve S U) stress) 1_000_000_001 0
       (λ U t.
-      let (on, low) = at-most-parts (curveAt site.compressibility (voidRatio S U)) stress t in
-      omega (arith, on-from-first site.compressibility (voidRatio S U) falls on))
+      let (on, low) = at-most-parts (curveAt curve (voidRatio S U)) stress t in
+      omega (arith, on-from-first curve (voidRatio S U) falls on))

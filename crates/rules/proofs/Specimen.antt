@@ -2,11 +2,12 @@
 use Prim.Native.Nat.{ℕ, suc, _≤_}
 use lib.Dec.{T, lit<, lit≤}
 use mathlib.Core.Bool.{false}
+use mathlib.Core.List.{List}
 use mathlib.Core.Option.{some}
 use mathlib.Core.Path.{_≡_, refl}
 use Rattle.rules.specs.Quantities.{pressureOf}
-use Rattle.rules.specs.Curve.{falling}
-use Rattle.rules.specs.Layer.{Site, voidRatio, effectiveStress}
+use Rattle.rules.specs.Curve.{Point, falling}
+use Rattle.rules.specs.Layer.{voidRatio, effectiveStress}
 use Rattle.rules.specs.Record.{recordSite, recordState}
 use Rattle.rules.specs.Start.{atMost, restingWater}
 use Rattle.rules.specs.Outcome.{answerNumber}
@@ -14,23 +15,23 @@ use Rattle.rules.specs.Job.{described, jobSite}
 use Rattle.rules.specs.Specimen.{Table, specimen, resting, heavier, openingNumber, openedFrom, numbersAfter, stateAfter, recordElements, recordBurdens}
 use Rattle.rules.proofs.Resting.{resting-found, resting-none}
 
--- the site of the specimen in start 1
-unfoldable restingSite : ℕ → Site
+-- the compressibility curve of the specimen in start 1
+unfoldable restingCurve : ℕ → List Point
 unfolding described jobSite resting
-restingSite load = jobSite (described (resting load))
+restingCurve load = (jobSite (described (resting load))) .compressibility
 
 -- the water at rest of each element, where the height passes the test and the one below it fails
 module _ (load W : ℕ) where
   rests : suc W ≤ 1_000_000_000 → voidRatio 1_000_000 W ≤ 200_000_000 →
-      T (atMost (effectiveStress (restingSite load) 1_000_000 (suc W)) load) →
-      atMost (effectiveStress (restingSite load) 1_000_000 W) load ≡ false →
-      restingWater (restingSite load) 1_000_000 load ≡ some (suc W)
-  unfolding restingSite falling
-  rests small on passes fails = resting-found (restingSite load) tt 1_000_000 (lit< tt) load W small on passes fails
+      T (atMost (effectiveStress (restingCurve load) 1_000_000 (suc W)) load) →
+      atMost (effectiveStress (restingCurve load) 1_000_000 W) load ≡ false →
+      restingWater (restingCurve load) 1_000_000 load ≡ some (suc W)
+  unfolding restingCurve falling
+  rests small on passes fails = resting-found (restingCurve load) tt 1_000_000 (lit< tt) load W small on passes fails
 
 pub table : Table
 unfolding specimen resting heavier openingNumber openedFrom numbersAfter stateAfter recordElements recordBurdens effectiveStress recordSite
-    recordState pressureOf restingSite falling voidRatio atMost
+    recordState pressureOf restingCurve falling voidRatio atMost
 table = record {
   case-1-resistance = refl;
   case-1-excess = refl;
@@ -48,7 +49,7 @@ table = record {
   case-7-accepted = rw (rests 105_000_000 999_999 (lit≤ tt) (lit≤ tt) tt refl, openingNumber, answerNumber) refl;
   case-7-water = rw (rests 105_000_000 999_999 (lit≤ tt) (lit≤ tt) tt refl, openedFrom) refl;
   case-7-above = refl;
-  case-7-below = rw (resting-none (restingSite 4_999_999) tt 1_000_000 (lit< tt) 4_999_999 (lit< tt), openingNumber, answerNumber) refl;
+  case-7-below = rw (resting-none (restingCurve 4_999_999) tt 1_000_000 (lit< tt) 4_999_999 (lit< tt), openingNumber, answerNumber) refl;
   case-8-burden = refl;
   case-9-positive = refl;
   case-9-negative = refl;

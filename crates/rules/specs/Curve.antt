@@ -3,12 +3,13 @@
 -- curve the void ratio and the conductivity. The load table has points of this form too, time and load; `Load` reads it.
 use Prim.Native.Nat.{ℕ, _+_, _-_, max, min}
 use lib.Dec.{leb, ltb}
-use lib.ListN.{take}
+use lib.ListN.{getD}
 use mathlib.Core.Bool.{Bool, true, false, _&&_}
 use mathlib.Core.List.{List, [], _∷_}
 use Rattle.numbers.specs.Rounding.{ceil}
 use Rattle.numbers.specs.Interpolation.{distance, share}
-use Rattle.numbers.specs.Lists.{all, neighbours, paired}
+use Rattle.numbers.specs.Arrays.{tabulate}
+use Rattle.numbers.specs.Lists.{all, neighbours}
 use Rattle.rules.specs.Quantities.{within, stressLimits, voidLimits, conductivityLimits}
 use Rattle.rules.specs.declared.quantities.CurveValue.{CurveValue}
 use Rattle.rules.specs.declared.quantities.CurveValue.the-variants.{On, Off}
@@ -22,8 +23,8 @@ point abscissa ordinate = record { abscissa = abscissa; ordinate = ordinate }
 
 -- the first points of two arrays
 unfoldable pub points : ℕ → List ℕ → List ℕ → List Point
-unfolding paired
-points count abscissas ordinates = paired point (take count abscissas) (take count ordinates)
+unfolding tabulate
+points count abscissas ordinates = tabulate count (λ i. point (getD abscissas i 0) (getD ordinates i 0))
 
 -- x lies on the segment from a to b, its ends included
 unfoldable pub spans : Point → Point → ℕ → Bool

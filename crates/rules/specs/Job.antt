@@ -5,7 +5,7 @@ use lib.IntN.{pos}
 use lib.ListN.{length, getD, take, drop}
 use mathlib.Core.Bool.{Bool, true, false, not, _&&_, _||_}
 use mathlib.Core.List.{List, [], _∷_}
-use Rattle.numbers.specs.Arrays.{filled, zeros}
+use Rattle.numbers.specs.Arrays.{firstPlaces, filled, zeros}
 use Rattle.numbers.specs.Bytes.{number}
 use Rattle.numbers.specs.Lists.{all}
 use Rattle.rules.specs.Quantities.{within, clockLimits, budgetLimits, head, pressure}
@@ -119,7 +119,8 @@ jobSite d = recordSite (describedRecord d 0)
 
 -- the water heights that it gives
 unfoldable pub givenWater : Description → List ℕ
-givenWater d = take d.elements d.water
+unfolding firstPlaces
+givenWater d = firstPlaces d.elements d.water
 
 -- cause 5: level, end, budget, solids and water keep their limits, and in start 1 no water is given
 unfoldable pub fieldsSound : Description → Bool

@@ -48,14 +48,14 @@ unfoldable pub voidRatio : (S W : ℕ) → ℕ
 voidRatio S W = floor (W * 100_000_000) S
 
 -- an element is on the curve where this gives a value
-unfoldable pub effectiveStress : Site → (S W : ℕ) → CurveValue
+unfoldable pub effectiveStress : (compressibility : List Point) (S W : ℕ) → CurveValue
 unfolding curveAt voidRatio
-effectiveStress site S W = curveAt site.compressibility (voidRatio S W)
+effectiveStress compressibility S W = curveAt compressibility (voidRatio S W)
 
 -- k
-unfoldable pub hydraulicConductivity : Site → (S W : ℕ) → CurveValue
+unfoldable pub hydraulicConductivity : (conductivity : List Point) (S W : ℕ) → CurveValue
 unfolding curveAt voidRatio
-hydraulicConductivity site S W = curveAt site.conductivity (voidRatio S W)
+hydraulicConductivity conductivity S W = curveAt conductivity (voidRatio S W)
 
 -- b, with specific gravity g in thousandths
 unfoldable pub buoyantWeight : (g S : ℕ) → ℕ
@@ -73,14 +73,14 @@ burdens g [] = []
 burdens g (S ∷ above) = burden g S above ∷ burdens g above
 
 -- p
-unfoldable pub excessPressure : Site → (load : ℤ) (B S W : ℕ) → ℤ
+unfoldable pub excessPressure : (compressibility : List Point) (load : ℤ) (B S W : ℕ) → ℤ
 unfolding effectiveStress valueOf
-excessPressure site load B S W = load +ℤ pos B -ℤ pos (valueOf (effectiveStress site S W))
+excessPressure compressibility load B S W = load +ℤ pos B -ℤ pos (valueOf (effectiveStress compressibility S W))
 
 -- r, from an element's middle to its face
-unfoldable pub resistance : Site → (S W : ℕ) → ℕ
+unfoldable pub resistance : (conductivity : List Point) (S W : ℕ) → ℕ
 unfolding hydraulicConductivity valueOf ceil
-resistance site S W = ceil (4_905 * height S W) (valueOf (hydraulicConductivity site S W))
+resistance conductivity S W = ceil (4_905 * height S W) (valueOf (hydraulicConductivity conductivity S W))
 
 -- c, the most by which a nanometre of water moves the void ratio
 unfoldable pub sensitivity : (S : ℕ) → ℕ
@@ -96,8 +96,8 @@ pub record Element : Type 0 where
 unfoldable pub element : Site → (load : ℤ) (B S W : ℕ) → Element
 unfolding excessPressure resistance sensitivity
 element site load B S W = record {
-  excess = excessPressure site load B S W;
-  resistance = resistance site S W;
+  excess = excessPressure site.compressibility load B S W;
+  resistance = resistance site.conductivity S W;
   sensitivity = sensitivity S;
 }
 

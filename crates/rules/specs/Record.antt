@@ -2,10 +2,9 @@
 use Prim.Native.Nat.{ℕ, _*_}
 use lib.Dec.{leb}
 use lib.IntN.{ℤ, pos, natAbs, _+ℤ_}
-use lib.ListN.{take}
 use mathlib.Core.Bool.{Bool, true, _&&_}
 use mathlib.Core.List.{List, [], _∷_, map}
-use Rattle.numbers.specs.Arrays.{overlaid}
+use Rattle.numbers.specs.Arrays.{firstPlaces, overlaid}
 use Rattle.numbers.specs.Integers.{eqℤ}
 use Rattle.numbers.specs.Lists.{all}
 use Rattle.numbers.specs.Sums.{sum}
@@ -48,9 +47,9 @@ sizesSound site water =
 
 -- what a record holds of a job
 unfoldable pub recordSite : Record → Site
-unfolding points
+unfolding firstPlaces points
 recordSite r = record {
-  solids = take r.elements r.solids;
+  solids = firstPlaces r.elements r.solids;
   compressibility = points (r .«compressibility_points») (r .«compressibility_void») (r .«compressibility_stress»);
   conductivity = points (r .«conductivity_points») (r .«conductivity_void») r.conductivity;
   loadTable = points (r .«table_points») (r .«table_time») (r .«table_load»);
@@ -63,8 +62,9 @@ recordSite r = record {
 
 -- what it holds of a state
 unfoldable pub recordState : Record → State
+unfolding firstPlaces
 recordState r = record {
-  water = take r.elements r.water;
+  water = firstPlaces r.elements r.water;
   load = r .load .0;
   clock = r .clock .0;
   topOutflow = r .«top_outflow»;

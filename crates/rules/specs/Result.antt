@@ -31,7 +31,7 @@ nodeHeight below S W = below + floor (height S W) 2
 unfoldable pub porePressure : Site → (load : ℤ) (below B S W : ℕ) → ℤ
 unfolding excessPressure pressureOf nodeHeight
 porePressure site load below B S W =
-    excessPressure site load B S W +ℤ (pressureOf (head (site.topLevel -ℤ pos (nodeHeight below S W)))) .0
+    excessPressure site.compressibility load B S W +ℤ (pressureOf (head (site.topLevel -ℤ pos (nodeHeight below S W)))) .0
 
 abbrev pub word : ℕ → List ℕ
 word n = bytes 8 n
@@ -40,7 +40,7 @@ word n = bytes 8 n
 unfoldable pub elementBytes : Site → (load : ℤ) (below B S W : ℕ) → List ℕ
 unfolding voidRatio effectiveStress valueOf porePressure bytes
 elementBytes site load below B S W =
-    let effective = valueOf (effectiveStress site S W) in
+    let effective = valueOf (effectiveStress site.compressibility S W) in
     let pore = porePressure site load below B S W in
     word W ++ word (voidRatio S W) ++ word effective ++ word (signedField (pore +ℤ pos effective)) ++ word (signedField pore)
 

@@ -78,7 +78,7 @@ pub record Table : Type 0 where
   pub case-2-accepted : numbersAfter (Step 100 ∷ []) ≡ 0 ∷ []
   pub case-2-water : (stateAfter (Step 100 ∷ [])) .water ≡ 2_000_000 ∷ 1_986_409 ∷ []
   pub case-2-outflow : (stateAfter (Step 100 ∷ [])) .topOutflow ≡ pos 13_591
-  pub case-2-stress : effectiveStress (recordSite (openedFrom specimen)) 1_000_000 1_986_409 ≡ On 6_359_100
+  pub case-2-stress : effectiveStress ((recordSite (openedFrom specimen)) .compressibility) 1_000_000 1_986_409 ≡ On 6_359_100
   pub case-3-water : (stateAfter (Step 100 ∷ Step 100 ∷ [])) .water ≡ 1_999_078 ∷ 1_975_614 ∷ []
   pub case-3-outflow : (stateAfter (Step 100 ∷ Step 100 ∷ [])) .topOutflow ≡ pos 25_308
   pub case-4-accepted : numbersAfter (Step 367 ∷ []) ≡ 0 ∷ []

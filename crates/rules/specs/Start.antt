@@ -25,9 +25,10 @@ atMost (On value) stress = leb value stress
 atMost Off stress = false
 
 -- the least water height on the curve whose effective stress is at most so much
-unfoldable pub restingWater : Site → (S stress : ℕ) → Option ℕ
+unfoldable pub restingWater : (compressibility : List Point) (S stress : ℕ) → Option ℕ
 unfolding least atMost effectiveStress
-restingWater site S stress = least (suc (waterLimits .most)) 0 (λ W. atMost (effectiveStress site S W) stress)
+restingWater compressibility S stress =
+    least (suc (waterLimits .most)) 0 (λ W. atMost (effectiveStress compressibility S W) stress)
 
 -- the compressibility curve's last stress
 unfoldable pub lastStress : List Point → ℕ
@@ -47,7 +48,7 @@ restingFrom site load [] Ss = some []
 restingFrom site load (B ∷ Bs) [] = some []
 restingFrom site load (B ∷ Bs) (S ∷ Ss) =
     elim (leb (load + B) (lastStress site.compressibility)) [
-      | true ↦ prepended (restingWater site S (load + B)) (restingFrom site load Bs Ss)
+      | true ↦ prepended (restingWater site.compressibility S (load + B)) (restingFrom site load Bs Ss)
       | false ↦ none
     ]
 

@@ -107,7 +107,7 @@ tooLong site s t =
 -- a water height is on the curve
 unfoldable pub onCurve : Site → (S : ℕ) (W : ℤ) → Bool
 unfolding isOn effectiveStress
-onCurve site S (pos W) = isOn (effectiveStress site S W)
+onCurve site S (pos W) = isOn (effectiveStress site.compressibility S W)
 onCurve site S (negsuc W) = false
 
 -- all water heights are

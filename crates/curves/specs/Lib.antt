@@ -1,0 +1,2 @@
+-- What the contracts of curves cite beside the rules.
+pub mod Checks

@@ -1,0 +1,3 @@
+// Both curves and the load table as points: their checks, their steepness, and reading them.
+pub mod checks;
+pub mod steep;

@@ -1,0 +1,31 @@
+// G: the largest ceil(stress rise / void fall) of the compressibility curve's segments.
+ghost use mathlib.Core.Bool.{true};
+ghost use mathlib.Core.Path.{_≡_};
+ghost use Prim.Native.Nat.{ℕ, _+_, _-_, _≤_, _<_};
+ghost use Rattle.numbers.specs.Rounding.{ceil};
+ghost use Rattle.rules.specs.Curve.{points, compressibilitySound, steepness};
+
+// The steepness of one segment.
+pub fn segment_steepness(void0: u64, stress0: u64, void1: u64, stress1: u64) -> u64
+    requires { ⌜ (void1 < void0) × (stress0 ≤ stress1) ⌝ }
+    requires { ⌜ (void0 ≤ 1_000_000_000) × (stress1 ≤ 2_000_000_000) ⌝ }
+    ensures { λ r. ⌜ r ≡ ceil (stress1 - stress0) (void0 - void1) ⌝ }
+{
+    numbers::ceil(stress1 - stress0, void0 - void1)
+}
+
+// The steepness of the whole curve.
+pub fn steepness<'a>(n: usize, void: &'a [u64; 64], stress: &'a [u64; 64]) -> u64
+    requires { ⌜ n ≤ 64 ⌝ }
+    requires { ⌜ compressibilitySound (points n (now void) (now stress)) ≡ true ⌝ }
+    ensures { λ r. ⌜ r ≡ steepness (points n (now (void .entry)) (now (stress .entry))) ⌝ }
+{
+    let mut most: u64 = 0;
+    let mut i: usize = 0;
+    while i + 1 < n {
+        let one = segment_steepness(void[i], stress[i], void[i + 1], stress[i + 1]);
+        most = numbers::greater(most, one);
+        i += 1;
+    }
+    most
+}

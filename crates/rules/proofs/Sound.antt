@@ -1,0 +1,67 @@
+-- What a sound curve or table says of its points, by index.
+use Prim.Native.Nat.{ℕ, _+_, _-_, _≤_, _<_, max}
+use native.Mathlib.Omega.{arith}
+use lib.Dec.{T, leb, ltb, ltb→lt}
+use borrow.Author.Tests.{leb-true, leb-false}
+use lib.ListN.{getD, drop}
+use mathlib.Core.Bool.{Bool, true, false, _&&_}
+use mathlib.Core.List.{List}
+use mathlib.Core.Path.{_≡_, refl}
+use Rattle.numbers.specs.Lists.{all}
+use Rattle.numbers.specs.Rounding.{ceil}
+use Rattle.numbers.specs.Searches.{passed, both}
+use Rattle.rules.specs.Curve.{points, falling, compressibilitySound, steepness}
+use Rattle.rules.specs.Quantities.{within, stressLimits, voidLimits}
+use Rattle.rules.proofs.Limits.{within-parts}
+use Rattle.rules.proofs.Points.{from-segment, from-point, from-end, from-last, all-at, neighbours-at}
+
+-- the points of a compressibility curve
+pub record Compressible (n : ℕ) (void stress : List ℕ) : Type 0 where
+  pub void-low : (i : ℕ) → i < n → 1 ≤ getD void i 0
+  pub void-high : (i : ℕ) → i < n → getD void i 0 ≤ 1_000_000_000
+  pub stress-high : (i : ℕ) → i < n → getD stress i 0 ≤ 2_000_000_000
+  pub void-falls : (i : ℕ) → i + 1 < n → getD void (i + 1) 0 < getD void i 0
+  pub stress-rises : (i : ℕ) → i + 1 < n → getD stress i 0 < getD stress (i + 1) 0
+
+module _ (n : ℕ) (void stress : List ℕ) (sound : compressibilitySound (points n void stress) ≡ true) where
+  kept : T (all (λ p. within voidLimits (p .abscissa) && within stressLimits (p .ordinate)) (points n void stress)) × T (falling (points n void stress))
+  unfolding compressibilitySound
+  kept = both (all (λ p. within voidLimits (p .abscissa) && within stressLimits (p .ordinate)) (points n void stress)) (falling (points n void stress)) (passed sound)
+
+  point-limits : (i : ℕ) → i < n → ((1 ≤ getD void i 0) × (getD void i 0 ≤ 1_000_000_000)) × (getD stress i 0 ≤ 2_000_000_000)
+  point-limits i h =
+      let (v, s) = both (within voidLimits (getD void i 0)) (within stressLimits (getD stress i 0)) (all-at n void stress _ (kept .0) i h) in
+      (within-parts voidLimits (getD void i 0) v, within-parts stressLimits (getD stress i 0) s .1)
+
+  segment : (i : ℕ) → i + 1 < n → (getD stress i 0 < getD stress (i + 1) 0) × (getD void (i + 1) 0 < getD void i 0)
+  unfolding falling
+  segment i h =
+      let (s, v) = both (ltb (getD stress i 0) (getD stress (i + 1) 0)) (ltb (getD void (i + 1) 0) (getD void i 0)) (neighbours-at n void stress _ (kept .1) i h) in
+      (ltb→lt (getD stress i 0) (getD stress (i + 1) 0) s, ltb→lt (getD void (i + 1) 0) (getD void i 0) v)
+
+  pub compressible : Compressible n void stress
+  compressible = record {
+    void-low = λ i h. point-limits i h .0 .0;
+    void-high = λ i h. point-limits i h .0 .1;
+    stress-high = λ i h. point-limits i h .1;
+    void-falls = λ i h. segment i h .1;
+    stress-rises = λ i h. segment i h .0;
+  }
+
+  pub falls-down : T (falling (points n void stress))
+  falls-down = kept .1
+
+-- steepness from an index on
+module _ (n : ℕ) (xs ys : List ℕ) (i : ℕ) where
+  pub steepness-step : i + 1 < n → steepness (drop i (points n xs ys)) ≡
+      max (ceil (getD ys (i + 1) 0 - getD ys i 0) (getD xs i 0 - getD xs (i + 1) 0)) (steepness (drop (i + 1) (points n xs ys)))
+  unfolding steepness
+  steepness-step h = rw (from-segment n xs ys i h, from-point n xs ys (i + 1) h)
+
+  pub steepness-end : n ≤ i + 1 → steepness (drop i (points n xs ys)) ≡ 0
+  unfolding steepness
+  steepness-end h = go (leb n i) refl
+    where
+      go : (c : Bool) → leb n i ≡ c → steepness (drop i (points n xs ys)) ≡ 0
+      go true e = rw (from-end n xs ys i (leb-true n i e))
+      go false e = let k = leb-false n i e in rw (from-last n xs ys i (omega arith))
