@@ -126,7 +126,7 @@ isLayer r =
     sizesSound site (s .water) && compressibilitySound (site .compressibility) &&
     conductivitySound (site .conductivity) (site .compressibility) && tableSound (site .loadTable) &&
     faceHolds r.top topPressure && faceHolds r.bottom (bottomPressure (site .topLevel) (site .bottomLevel)) &&
-    allOnCurve site (map pos (s .water)) && withinℤ stressLimits (s .load) && within clockLimits (s .clock) &&
+    allOnCurve (site .compressibility) (site .solids) (map pos (s .water)) && withinℤ stressLimits (s .load) && within clockLimits (s .clock) &&
     within startingWaterLimits (r .«starting_water») &&
     eqℤ (pos (r .«starting_water»)) (pos (sum (s .water)) +ℤ s .topOutflow +ℤ s .bottomOutflow) &&
     outflowSound (s .topOutflow) (s .clock) && outflowSound (s .bottomOutflow) (s .clock)

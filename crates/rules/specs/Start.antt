@@ -57,7 +57,7 @@ unfoldable pub startWater : Site → (start : ℕ) (given : List ℕ) (load : �
 unfolding allOnCurve restingFrom burdens
 startWater site start given load =
     elim (eqb start 0) [
-      | true ↦ elim (allOnCurve site (map pos given)) [ true ↦ some given | false ↦ none ]
+      | true ↦ elim (allOnCurve site.compressibility site.solids (map pos given)) [ true ↦ some given | false ↦ none ]
       | false ↦ restingFrom site load (burdens site.gravity site.solids) site.solids
     ]
 

@@ -8,7 +8,7 @@ use mathlib.Core.Option.{Option}
 use Rattle.numbers.specs.Rounding.{cut}
 use Rattle.numbers.specs.Lists.{all, any, paired, firstOr, lastOr}
 use Rattle.rules.specs.Quantities.{within, stepLimits, clockLimits}
-use Rattle.rules.specs.Curve.{steepness, isOn}
+use Rattle.rules.specs.Curve.{Point, steepness, isOn}
 use Rattle.rules.specs.Layer.{Site, State, Element, elements, effectiveStress}
 use Rattle.rules.specs.Refusals.{_if_, firstCause}
 use Rattle.rules.specs.declared.quantities.Face.{Face}
@@ -42,10 +42,10 @@ flowsAbove top t (e ∷ []) = outward top t e ∷ []
 flowsAbove top t (e ∷ f ∷ rest) = upward t e f ∷ flowsAbove top t (f ∷ rest)
 
 -- up through every face of the layer, the bottom first: one flow more than elements
-unfoldable pub upwardFlows : Site → (t : ℕ) → List Element → List ℤ
+unfoldable pub upwardFlows : (top bottom : Face) (t : ℕ) → List Element → List ℤ
 unfolding outward flowsAbove
-upwardFlows site t [] = []
-upwardFlows site t (e ∷ rest) = negℤ (outward site.bottom t e) ∷ flowsAbove site.top t (e ∷ rest)
+upwardFlows top bottom t [] = []
+upwardFlows top bottom t (e ∷ rest) = negℤ (outward bottom t e) ∷ flowsAbove top t (e ∷ rest)
 
 -- the new water, on the curve or not: less what leaves by the upper face, and what enters by the lower
 unfoldable pub moved : (flows : List ℤ) (water : List ℕ) → List ℤ
@@ -58,7 +58,7 @@ moved (below ∷ above ∷ rest) (w ∷ ws) = (pos w -ℤ above +ℤ below) ∷ 
 unfoldable pub stepped : Site → (t : ℕ) → State → State
 unfolding upwardFlows elements moved firstOr lastOr
 stepped site t s =
-    let flows = upwardFlows site t (elements site s) in
+    let flows = upwardFlows site.top site.bottom t (elements site s) in
     record {
       water = map natAbs (moved flows s.water);
       load = s.load;
@@ -93,32 +93,36 @@ contactsAbove top (e ∷ f ∷ rest) =
     contact e (innerResistance e f) ∷ contact f (innerResistance e f) ∷ contactsAbove top (f ∷ rest)
 
 -- every element with every inner or drained face of it
-unfoldable pub contacts : Site → List Element → List Contact
+unfoldable pub contacts : (top bottom : Face) → List Element → List Contact
 unfolding outerContacts contactsAbove
-contacts site [] = []
-contacts site (e ∷ rest) = outerContacts site.bottom e ++ contactsAbove site.top (e ∷ rest)
+contacts top bottom [] = []
+contacts top bottom (e ∷ rest) = outerContacts bottom e ++ contactsAbove top (e ∷ rest)
+
+-- a step is too long for an element and a face of it
+unfoldable pub tooLongAt : (slope t : ℕ) → Contact → Bool
+tooLongAt slope t c = ltb c.faceResistance (2 * c.sensitivity * slope * t)
 
 -- a step is too long for some element and face of it
 unfoldable pub tooLong : Site → State → (t : ℕ) → Bool
-unfolding any contacts elements stressSlope
-tooLong site s t =
-    any (λ c. ltb (c .faceResistance) (2 * c .sensitivity * stressSlope site * t)) (contacts site (elements site s))
+unfolding any tooLongAt contacts elements stressSlope
+tooLong site s t = any (tooLongAt (stressSlope site) t) (contacts site.top site.bottom (elements site s))
 
 -- a water height is on the curve
-unfoldable pub onCurve : Site → (S : ℕ) (W : ℤ) → Bool
+unfoldable pub onCurve : (compressibility : List Point) (S : ℕ) (W : ℤ) → Bool
 unfolding isOn effectiveStress
-onCurve site S (pos W) = isOn (effectiveStress site.compressibility S W)
-onCurve site S (negsuc W) = false
+onCurve compressibility S (pos W) = isOn (effectiveStress compressibility S W)
+onCurve compressibility S (negsuc W) = false
 
 -- all water heights are
-unfoldable pub allOnCurve : Site → (water : List ℤ) → Bool
+unfoldable pub allOnCurve : (compressibility : List Point) (solids : List ℕ) (water : List ℤ) → Bool
 unfolding all paired onCurve
-allOnCurve site water = all (λ on. on) (paired (onCurve site) site.solids water)
+allOnCurve compressibility solids water = all (λ on. on) (paired (onCurve compressibility) solids water)
 
 -- a step would take some element off the curve
 unfoldable pub leavesCurve : Site → State → (t : ℕ) → Bool
 unfolding allOnCurve moved upwardFlows elements
-leavesCurve site s t = not (allOnCurve site (moved (upwardFlows site t (elements site s)) s.water))
+leavesCurve site s t =
+    not (allOnCurve site.compressibility site.solids (moved (upwardFlows site.top site.bottom t (elements site s)) s.water))
 
 -- why a step is refused, if it is: 13, 14, 15
 unfoldable pub stepRefusal : Site → State → (t : ℕ) → Option Refusal

@@ -1,0 +1,26 @@
+-- Elements as arrays of their excess pressures, resistances and sensitivities hold them.
+use Prim.Native.Nat.{ℕ}
+use lib.IntN.{ℤ, pos}
+use lib.ListN.{getD}
+use mathlib.Core.List.{List}
+use Rattle.numbers.specs.Arrays.{tabulate}
+use Rattle.numbers.specs.Interval.{Within}
+use Rattle.rules.specs.Layer.{Element}
+use Rattle.rules.specs.declared.quantities.Face.{Face}
+use Rattle.rules.specs.declared.quantities.Face.the-variants.{Closed, Drained}
+
+abbrev pub elementOf : (excess : ℤ) (resistance sensitivity : ℕ) → Element
+elementOf excess resistance sensitivity = record { excess = excess; resistance = resistance; sensitivity = sensitivity }
+
+abbrev pub elementIn : (excess : List ℤ) (resistance sensitivity : List ℕ) → ℕ → Element
+elementIn excess resistance sensitivity j = elementOf (getD excess j (pos 0)) (getD resistance j 0) (getD sensitivity j 0)
+
+-- the first elements of the arrays
+unfoldable pub elementsIn : ℕ → (excess : List ℤ) (resistance sensitivity : List ℕ) → List Element
+unfolding tabulate
+elementsIn n excess resistance sensitivity = tabulate n (elementIn excess resistance sensitivity)
+
+-- a drained face holds at most the pressure of the greatest head
+unfoldable pub HeldWithin : Face → Type 0
+HeldWithin Closed = Unit {0}
+HeldWithin (Drained held) = Within (held .0) 1_962_000_000

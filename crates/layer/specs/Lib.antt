@@ -1,0 +1,2 @@
+-- What the contracts of the layer cite beside the rules.
+pub mod Elements

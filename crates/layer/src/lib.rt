@@ -1,0 +1,2 @@
+// Elements and the layer. An element function takes numbers, a layer function borrowed arrays.
+pub mod element;
