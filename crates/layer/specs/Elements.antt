@@ -1,11 +1,12 @@
 -- Elements as arrays of their excess pressures, resistances and sensitivities hold them.
-use Prim.Native.Nat.{ℕ}
+use Prim.Native.Nat.{ℕ, _≤_, _<_}
 use lib.IntN.{ℤ, pos}
 use lib.ListN.{getD}
-use mathlib.Core.List.{List}
+use mathlib.Core.List.{List, []}
 use Rattle.numbers.specs.Arrays.{tabulate}
 use Rattle.numbers.specs.Interval.{Within}
 use Rattle.rules.specs.Layer.{Element}
+use Rattle.rules.specs.Step.{flowsAbove}
 use Rattle.rules.specs.declared.quantities.Face.{Face}
 use Rattle.rules.specs.declared.quantities.Face.the-variants.{Closed, Drained}
 
@@ -24,3 +25,14 @@ elementsIn n excess resistance sensitivity = tabulate n (elementIn excess resist
 unfoldable pub HeldWithin : Face → Type 0
 HeldWithin Closed = Unit {0}
 HeldWithin (Drained held) = Within (held .0) 1_962_000_000
+
+-- what a step needs of the arrays: no pressure and no resistance is out of range
+pub record Readable (n : ℕ) (excess : List ℤ) (resistance : List ℕ) : Type 0 where
+  pub excess-within : (j : ℕ) → j < n → Within (getD excess j (pos 0)) 2_520_000_000
+  pub resistance-positive : (j : ℕ) → j < n → 0 < getD resistance j 0
+  pub resistance-most : (j : ℕ) → j < n → getD resistance j 0 ≤ 5_400_000_000_000
+
+-- up through the upper face of element j
+unfoldable pub flowAbove : (top : Face) (t n : ℕ) (excess : List ℤ) (resistance : List ℕ) → ℕ → ℤ
+unfolding flowsAbove elementsIn
+flowAbove top t n excess resistance j = getD (flowsAbove top t (elementsIn n excess resistance [])) j (pos 0)

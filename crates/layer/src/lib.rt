@@ -1,2 +1,3 @@
 // Elements and the layer. An element function takes numbers, a layer function borrowed arrays.
 pub mod element;
+pub mod flows;

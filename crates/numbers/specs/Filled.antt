@@ -141,6 +141,11 @@ module _ {A : Type 0} where
       go (x ∷ xs) zero f h = refl
       go (x ∷ xs) (suc n) f h = ap (λ (r : List A). f zero ∷ r) (go xs n (λ k. f (suc k)) (le-of-suc-le-suc h))
 
+  -- a store into an array filled so far
+  pub filled-store : (array out : List A) (n : ℕ) (f : ℕ → A) (a : A) → n < length array → out ≡ filled array n f → a ≡ f n →
+      set out n a ≡ filled array (n + 1) f
+  filled-store array out n f a h e k = rw (e, k) (filled-suc array n f h)
+
 -- ---- zeros
 
 -- so many

@@ -1,0 +1,2 @@
+-- Laws of the layer by index.
+pub mod FlowsAt
