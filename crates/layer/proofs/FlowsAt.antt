@@ -45,10 +45,11 @@ module _ (top : Face) (t : ℕ) where
     unfolding flowAbove elementsIn upward innerResistance
     flow-inner h =
         rw (
-        above-inner (elementsIn n excess resistance []) j (elementOf (pos 0) 0 0) (rw (length-tabulate n (elementIn excess resistance [])) (omega arith)),
-        getD-tabulate n (elementIn excess resistance []) j (elementOf (pos 0) 0 0) (omega arith),
-        ← add-one j,
-        getD-tabulate n (elementIn excess resistance []) (j + 1) (elementOf (pos 0) 0 0) h)
+          above-inner (elementsIn n excess resistance []) j (elementOf (pos 0) 0 0) (rw (length-tabulate n (elementIn excess resistance [])) (omega arith)),
+          getD-tabulate n (elementIn excess resistance []) j (elementOf (pos 0) 0 0) (omega arith),
+          ← add-one j,
+          getD-tabulate n (elementIn excess resistance []) (j + 1) (elementOf (pos 0) 0 0) h,
+        )
 
     -- the top
     pub flow-top : j + 1 ≡ n → flowAbove top t n excess resistance j ≡
@@ -56,5 +57,6 @@ module _ (top : Face) (t : ℕ) where
     unfolding flowAbove elementsIn
     flow-top h =
         rw (
-        above-top (elementsIn n excess resistance []) j (elementOf (pos 0) 0 0) (rw (length-tabulate n (elementIn excess resistance [])) (omega arith)),
-        getD-tabulate n (elementIn excess resistance []) j (elementOf (pos 0) 0 0) (omega arith))
+          above-top (elementsIn n excess resistance []) j (elementOf (pos 0) 0 0) (rw (length-tabulate n (elementIn excess resistance [])) (omega arith)),
+          getD-tabulate n (elementIn excess resistance []) j (elementOf (pos 0) 0 0) (omega arith),
+        )

@@ -1,2 +1,3 @@
 -- Laws of the layer by index.
 pub mod FlowsAt
+pub mod WaterAt

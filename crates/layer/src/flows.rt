@@ -5,12 +5,18 @@ ghost use mathlib.Core.Path.{_≡_};
 ghost use Prim.Native.Nat.{ℕ, _+_, _≤_, _<_};
 ghost use Rattle.layer.specs.Elements.{Readable, HeldWithin, flowAbove};
 ghost use Rattle.numbers.specs.Arrays.{filled};
-
 use crate::element;
 use rules::quantities::Face;
 
 // The flows of t seconds up through the upper face of each element, in the first n places.
-pub fn flows_above<'a>(n: usize, top: Face, t: u64, excess: &'a [i64; 128], resistance: &'a [u64; 128], above: &mut [i64; 128])
+pub fn flows_above<'a>(
+    n: usize,
+    top: Face,
+    t: u64,
+    excess: &'a [i64; 128],
+    resistance: &'a [u64; 128],
+    above: &mut [i64; 128],
+)
     requires { ⌜ (0 < n) × (n ≤ 128) ⌝ }
     requires { ⌜ HeldWithin top ⌝ }
     requires { ⌜ t ≤ 1_000_000 ⌝ }
@@ -20,7 +26,11 @@ pub fn flows_above<'a>(n: usize, top: Face, t: u64, excess: &'a [i64; 128], resi
 {
     let mut j: usize = 0;
     while j + 1 < n {
-        above[j] = element::flow(excess[j] - excess[j + 1], t, resistance[j] + resistance[j + 1]);
+        above[j] = element::flow(
+            excess[j] - excess[j + 1],
+            t,
+            resistance[j] + resistance[j + 1],
+        );
         j += 1;
     }
     above[j] = element::outward(top, excess[j], t, resistance[j]);

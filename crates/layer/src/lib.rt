@@ -1,3 +1,4 @@
 // Elements and the layer. An element function takes numbers, a layer function borrowed arrays.
 pub mod element;
 pub mod flows;
+pub mod water;

@@ -19,3 +19,4 @@ pub mod Searches
 pub mod LittleEndian
 -- laws of lists by index and of arrays
 pub mod Filled
+pub mod Indices

@@ -51,10 +51,11 @@ module _ (l : tie.At-loop Inv-loop μ-loop) where
   sum-within : j + 1 < s .args .n → (0 < r j + r (j + 1)) × (r j + r (j + 1) ≤ 11_000_000_000_000)
   sum-within h =
       omega (
-      arith,
-      readable .resistance-positive j (omega arith),
-      readable .resistance-most j (omega arith),
-      readable .resistance-most (j + 1) h)
+        arith,
+        readable .resistance-positive j (omega arith),
+        readable .resistance-most j (omega arith),
+        readable .resistance-most (j + 1) h,
+      )
 
   -- a flow stored at its place
   stored : (z : ℤ) → SFits w64 z → z ≡ flowAbove (s .args .top) (s .args .t) (s .args .n) (s .args .excess .now) (s .args .resistance .now) j →
@@ -145,9 +146,16 @@ element-copy-out-outward-2 c = omega arith
 outward-requires : tie.Need-outward-requires Inv-loop μ-loop
 outward-requires c κs =
     let l = c .before .before .before in
-    simp (readBack (p-fits l (j l) (omega arith)))
-    (within-le (readable l .excess-within (j l) (omega arith)) (lit≤ tt), (s l .pre .1 .0, (s l .pre .1 .1 .0,
-    omega (arith, readable l .resistance-positive (j l) (omega arith), readable l .resistance-most (j l) (omega arith)))))
+    simp (readBack (p-fits l (j l) (omega arith))) (
+      within-le (readable l .excess-within (j l) (omega arith)) (lit≤ tt),
+      (
+        s l .pre .1 .0,
+        (
+          s l .pre .1 .1 .0,
+          omega (arith, readable l .resistance-positive (j l) (omega arith), readable l .resistance-most (j l) (omega arith)),
+        ),
+      ),
+    )
 
 mul-t42 : tie.Need-mul-t42 Inv-loop μ-loop
 mul-t42 c = omega arith
