@@ -1,3 +1,4 @@
 -- What the contracts of the layer cite beside the rules.
 pub mod Elements
 pub mod Water
+pub mod Weights

@@ -2,3 +2,4 @@
 pub mod element;
 pub mod flows;
 pub mod water;
+pub mod weights;

@@ -146,6 +146,10 @@ module _ {A : Type 0} where
       set out n a ≡ filled array (n + 1) f
   filled-store array out n f a h e k = rw (e, k) (filled-suc array n f h)
 
+  -- the array once all places are filled
+  pub filled-done : (array out : List A) (n m : ℕ) (f : ℕ → A) → out ≡ filled array n f → n ≡ m → out ≡ filled array m f
+  filled-done array out n m f e k = rw (← k) e
+
 -- ---- zeros
 
 -- so many

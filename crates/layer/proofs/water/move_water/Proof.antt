@@ -12,7 +12,7 @@ use mir.Val.{SFits, ofZ, toZ}
 use Rattle.layer.specs.Water.{newWater, Movable}
 use Rattle.layer.proofs.WaterAt.{entering}
 use Rattle.numbers.specs.Arrays.{filled}
-use Rattle.numbers.specs.Filled.{filled-zero, filled-store, getD-filled-past}
+use Rattle.numbers.specs.Filled.{filled-zero, filled-store, filled-done, getD-filled-past}
 use Rattle.numbers.specs.Interval.{Within, within-fits}
 use Rattle.numbers.specs.Signed.{readBack, cast-fits}
 use Rattle.layer.proofs.water.move_water.Statement.{statement}
@@ -128,7 +128,7 @@ loop-again c =
     )
 
 returns : tie.Need-returns Inv-loop μ-loop
-returns c = let l = c .before in moved l ∙ ap (λ (k : ℕ). filled (water l) k (new l)) (omega arith)
+returns c = let l = c .before in filled-done _ _ (j l) _ _ (moved l) (omega arith)
 
 pub move-water-spec : {M : Type 1} → statement M
 move-water-spec =
