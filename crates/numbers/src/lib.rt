@@ -3,7 +3,7 @@ ghost use lib.IntN.{ℤ, pos, natAbs};
 ghost use lib.Signed.{_<ℤ_};
 ghost use mathlib.Core.Path.{_≡_};
 ghost use Prim.Native.Nat.{ℕ, _+_, _*_, _≤_, _<_, _^_, max, min};
-ghost use Rattle.numbers.specs.Interpolation.{share};
+ghost use Rattle.numbers.specs.Interpolation.{distance, share};
 ghost use Rattle.numbers.specs.Interval.{Within};
 ghost use Rattle.numbers.specs.Quotients.{Floored, Ceiled, Cut};
 
@@ -51,4 +51,11 @@ pub fn lesser(a: u64, b: u64) -> u64
     ensures { λ r. ⌜ r ≡ min a b ⌝ }
 {
     if a < b { a } else { b }
+}
+
+// How far apart two numbers lie.
+pub fn distance(a: u64, b: u64) -> u64
+    ensures { λ r. ⌜ r ≡ distance a b ⌝ }
+{
+    if a < b { b - a } else { a - b }
 }

@@ -1,0 +1,2 @@
+-- Laws of reading a curve by index.
+pub mod Segments

@@ -1,0 +1,79 @@
+// Reading a curve, falling or rising.
+ghost use mathlib.Core.Path.{_≡_};
+ghost use Prim.Native.Nat.{ℕ, _+_, _≤_, _<_};
+ghost use Rattle.curves.specs.Smooth.{Smooth};
+ghost use Rattle.numbers.specs.Interpolation.{distance};
+ghost use Rattle.rules.specs.Curve.{point, points, spans, interpolated, curveAt};
+use rules::quantities::CurveValue;
+
+// What a reading found, and the segment where it looked last: a hint for the next reading.
+pub struct Found {
+    pub value: CurveValue,
+    pub segment: usize,
+}
+
+// Whether x lies on the segment between two abscissas, its ends included.
+pub fn spans(x0: u64, x1: u64, x: u64) -> bool
+    ensures { λ r. ⌜ ((y0 y1 : ℕ) → r ≡ spans (point x0 y0) (point x1 y1) x) ⌝ }
+{
+    if x0 < x1 {
+        x0 <= x && x <= x1
+    } else {
+        x1 <= x && x <= x0
+    }
+}
+
+// The ordinate at x on a segment that spans it.
+pub fn interpolated(x0: u64, y0: u64, x1: u64, y1: u64, x: u64) -> u64
+    requires { ⌜ (0 < distance x0 x1) × (distance x0 x ≤ 1_000_000_000) ⌝ }
+    requires { ⌜ (y0 ≤ y1) × (y1 ≤ 2_000_000_000) ⌝ }
+    requires { ⌜ distance x0 x ≤ distance x0 x1 ⌝ }
+    ensures { λ r. ⌜ r ≡ interpolated (point x0 y0) (point x1 y1) x ⌝ }
+{
+    y0 + numbers::share(y1 - y0, numbers::distance(x0, x), numbers::distance(x0, x1))
+}
+
+// What the curve gives at x, by the first segment that spans it.
+pub fn read_from_first<'a>(n: usize, xs: &'a [u64; 64], ys: &'a [u64; 64], x: u64) -> Found
+    requires { ⌜ (2 ≤ n) × (n ≤ 64) ⌝ }
+    requires { ⌜ Smooth n (now xs) (now ys) ⌝ }
+    ensures { λ r. ⌜ (r .value ≡ curveAt (points n (now (xs .entry)) (now (ys .entry))) x) × (r .segment + 1 < n) ⌝ }
+{
+    let mut i: usize = 0;
+    while i + 1 < n {
+        if spans(xs[i], xs[i + 1], x) {
+            return Found {
+                value: CurveValue::On(interpolated(xs[i], ys[i], xs[i + 1], ys[i + 1], x)),
+                segment: i,
+            };
+        }
+        i += 1;
+    }
+    Found {
+        value: CurveValue::Off,
+        segment: 0,
+    }
+}
+
+// What the curve gives at x, whatever segment the hint names.
+pub fn read<'a>(n: usize, xs: &'a [u64; 64], ys: &'a [u64; 64], x: u64, hint: usize) -> Found
+    requires { ⌜ (2 ≤ n) × (n ≤ 64) ⌝ }
+    requires { ⌜ Smooth n (now xs) (now ys) ⌝ }
+    ensures { λ r. ⌜ (r .value ≡ curveAt (points n (now (xs .entry)) (now (ys .entry))) x) × (r .segment + 1 < n) ⌝ }
+{
+    if hint < n - 1 {
+        if spans(xs[hint], xs[hint + 1], x) {
+            return Found {
+                value: CurveValue::On(interpolated(
+                    xs[hint],
+                    ys[hint],
+                    xs[hint + 1],
+                    ys[hint + 1],
+                    x,
+                )),
+                segment: hint,
+            };
+        }
+    }
+    read_from_first(n, xs, ys, x)
+}

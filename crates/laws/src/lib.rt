@@ -1,0 +1,1 @@
+// The laws of the rules are statements with proofs, in specs/; there is no code here.
