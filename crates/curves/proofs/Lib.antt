@@ -1,2 +1,3 @@
--- Laws of reading a curve by index.
+-- Laws of reading a curve by index, and of what a curve covers.
 pub mod Segments
+pub mod Covers

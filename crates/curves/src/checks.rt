@@ -1,10 +1,11 @@
 // The checks of a curve's or a table's points, on any numbers at all.
-ghost use mathlib.Core.Bool.{_&&_};
+ghost use mathlib.Core.Bool.{true};
+ghost use mathlib.Core.List.{List};
 ghost use mathlib.Core.Path.{_≡_};
 ghost use Prim.Native.Nat.{ℕ, _+_, _≤_, _<_};
 ghost use Rattle.curves.specs.Checks.{limitsOf, pointKept, trendKept};
 ghost use Rattle.numbers.specs.Lists.{all, neighbours};
-ghost use Rattle.rules.specs.Curve.{point, points, compressibilitySound};
+ghost use Rattle.rules.specs.Curve.{point, points, rising, covers, compressibilitySound, conductivitySound};
 use rules::quantities;
 use rules::quantities::Clock;
 use rules::quantities::Conductivity;
@@ -77,4 +78,71 @@ pub fn neighbours_kept<'a>(trend: Trend, n: usize, xs: &'a [u64; 64], ys: &'a [u
         i += 1;
     }
     true
+}
+
+// Cause 6: whether the compressibility curve is sound.
+pub fn compressibility_sound<'a>(n: usize, void: &'a [u64; 64], stress: &'a [u64; 64]) -> bool
+    requires { ⌜ n ≤ 64 ⌝ }
+    ensures { λ r. ⌜ r ≡ compressibilitySound (points n (now (void .entry)) (now (stress .entry))) ⌝ }
+{
+    let voids = Range {
+        least: Void::LEAST,
+        most: Void::MOST,
+    };
+    let stresses = Range {
+        least: Pressure::LEAST,
+        most: Pressure::MOST,
+    };
+    points_kept(n, void, stress, voids, stresses) && neighbours_kept(Trend::Falls, n, void, stress)
+}
+
+// Whether every void ratio of the first curve's points lies on the second, a rising one.
+pub fn covers<'a>(
+    n: usize,
+    void: &'a [u64; 64],
+    conductivity: &'a [u64; 64],
+    first_n: usize,
+    first_void: &'a [u64; 64],
+) -> bool
+    requires { ⌜ (2 ≤ n) × (n ≤ 64) ⌝ }
+    requires { ⌜ «first_n» ≤ 64 ⌝ }
+    requires { ⌜ rising (points n (now void) (now conductivity)) ≡ true ⌝ }
+    ensures { λ r. ⌜ ((stress : List ℕ) → r ≡ covers (points n (now (void .entry)) (now (conductivity .entry))) (points «first_n» (now («first_void» .entry)) stress)) ⌝ }
+{
+    let last = n - 1;
+    let voids = Range {
+        least: void[0],
+        most: void[last],
+    };
+    points_kept(first_n, first_void, first_void, voids, voids)
+}
+
+// Cause 7: whether the conductivity curve is sound and covers the first.
+pub fn conductivity_sound<'a>(
+    n: usize,
+    void: &'a [u64; 64],
+    conductivity: &'a [u64; 64],
+    first_n: usize,
+    first_void: &'a [u64; 64],
+    first_stress: &'a [u64; 64],
+) -> bool
+    requires { ⌜ (2 ≤ n) × (n ≤ 64) ⌝ }
+    requires { ⌜ «first_n» ≤ 64 ⌝ }
+    ensures { λ r. ⌜ r ≡ conductivitySound (points n (now (void .entry)) (now (conductivity .entry))) (points «first_n» (now («first_void» .entry)) (now («first_stress» .entry))) ⌝ }
+{
+    let voids = Range {
+        least: Void::LEAST,
+        most: Void::MOST,
+    };
+    let conductivities = Range {
+        least: Conductivity::LEAST,
+        most: Conductivity::MOST,
+    };
+    if !points_kept(n, void, conductivity, voids, conductivities) {
+        return false;
+    }
+    if !neighbours_kept(Trend::Rises, n, void, conductivity) {
+        return false;
+    }
+    covers(n, void, conductivity, first_n, first_void)
 }

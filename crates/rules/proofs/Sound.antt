@@ -1,7 +1,7 @@
 -- What a sound curve or table says of its points, by index.
 use Prim.Native.Nat.{ℕ, _+_, _-_, _≤_, _<_, max}
 use native.Mathlib.Omega.{arith}
-use lib.Dec.{T, leb, ltb, ltb→lt}
+use lib.Dec.{T, leb, ltb, leb→le, ltb→lt}
 use borrow.Author.Tests.{leb-true, leb-false}
 use lib.ListN.{getD, drop}
 use mathlib.Core.Bool.{Bool, true, false, _&&_}
@@ -10,8 +10,8 @@ use mathlib.Core.Path.{_≡_, refl}
 use Rattle.numbers.specs.Lists.{all}
 use Rattle.numbers.specs.Rounding.{ceil}
 use Rattle.numbers.specs.Searches.{passed, both}
-use Rattle.rules.specs.Curve.{points, falling, compressibilitySound, steepness}
-use Rattle.rules.specs.Quantities.{within, stressLimits, voidLimits}
+use Rattle.rules.specs.Curve.{Point, points, falling, rising, covers, compressibilitySound, conductivitySound, steepness}
+use Rattle.rules.specs.Quantities.{within, stressLimits, voidLimits, conductivityLimits}
 use Rattle.rules.proofs.Limits.{within-parts}
 use Rattle.rules.proofs.Points.{from-segment, from-point, from-end, from-last, all-at, neighbours-at}
 
@@ -50,6 +50,53 @@ module _ (n : ℕ) (void stress : List ℕ) (sound : compressibilitySound (point
 
   pub falls-down : T (falling (points n void stress))
   falls-down = kept .1
+
+-- the points of a conductivity curve
+pub record Conductive (n : ℕ) (void conductivity : List ℕ) : Type 0 where
+  pub void-high : (i : ℕ) → i < n → getD void i 0 ≤ 1_000_000_000
+  pub conductivity-low : (i : ℕ) → i < n → 1 ≤ getD conductivity i 0
+  pub conductivity-high : (i : ℕ) → i < n → getD conductivity i 0 ≤ 1_000_000_000
+  pub void-rises : (i : ℕ) → i + 1 < n → getD void i 0 < getD void (i + 1) 0
+  pub never-falls : (i : ℕ) → i + 1 < n → getD conductivity i 0 ≤ getD conductivity (i + 1) 0
+
+module _ (n : ℕ) (void conductivity : List ℕ) (first : List Point) (sound : conductivitySound (points n void conductivity) first ≡ true) where
+  abbrev keeps : Point → Bool
+  keeps p = within voidLimits (p .abscissa) && within conductivityLimits (p .ordinate)
+
+  parts : T (all keeps (points n void conductivity) && rising (points n void conductivity)) × T (covers (points n void conductivity) first)
+  unfolding conductivitySound
+  parts =
+      both (all keeps (points n void conductivity) && rising (points n void conductivity)) (covers (points n void conductivity) first)
+      (passed sound)
+
+  kept-and-rising : T (all keeps (points n void conductivity)) × T (rising (points n void conductivity))
+  kept-and-rising = both (all keeps (points n void conductivity)) (rising (points n void conductivity)) (parts .0)
+
+  pub rises-up : T (rising (points n void conductivity))
+  rises-up = kept-and-rising .1
+
+  pub covers-first : T (covers (points n void conductivity) first)
+  covers-first = parts .1
+
+  conductive-limits : (i : ℕ) → i < n → (getD void i 0 ≤ 1_000_000_000) × ((1 ≤ getD conductivity i 0) × (getD conductivity i 0 ≤ 1_000_000_000))
+  conductive-limits i h =
+      let (v, k) = both (within voidLimits (getD void i 0)) (within conductivityLimits (getD conductivity i 0)) (all-at n void conductivity keeps (kept-and-rising .0) i h) in
+      (within-parts voidLimits (getD void i 0) v .1, within-parts conductivityLimits (getD conductivity i 0) k)
+
+  conductive-segment : (i : ℕ) → i + 1 < n → (getD void i 0 < getD void (i + 1) 0) × (getD conductivity i 0 ≤ getD conductivity (i + 1) 0)
+  unfolding rising
+  conductive-segment i h =
+      let (v, k) = both (ltb (getD void i 0) (getD void (i + 1) 0)) (leb (getD conductivity i 0) (getD conductivity (i + 1) 0)) (neighbours-at n void conductivity _ rises-up i h) in
+      (ltb→lt (getD void i 0) (getD void (i + 1) 0) v, leb→le (getD conductivity i 0) (getD conductivity (i + 1) 0) k)
+
+  pub conductive : Conductive n void conductivity
+  conductive = record {
+    void-high = λ i h. conductive-limits i h .0;
+    conductivity-low = λ i h. conductive-limits i h .1 .0;
+    conductivity-high = λ i h. conductive-limits i h .1 .1;
+    void-rises = λ i h. conductive-segment i h .0;
+    never-falls = λ i h. conductive-segment i h .1;
+  }
 
 -- steepness from an index on
 module _ (n : ℕ) (xs ys : List ℕ) (i : ℕ) where

@@ -1,0 +1,2 @@
+-- The laws of the load table by index.
+pub mod Laws

@@ -1,0 +1,89 @@
+// The load table: its check, its load at a time, and its next time.
+ghost use lib.IntN.{ℤ, pos, _+ℤ_, _-ℤ_, _*ℤ_};
+ghost use lib.Signed.{_≤ℤ_};
+ghost use mathlib.Core.Bool.{true};
+ghost use mathlib.Core.List.{List};
+ghost use mathlib.Core.Path.{_≡_};
+ghost use Prim.Native.Nat.{ℕ, _-_, _≤_, _<_};
+ghost use Rattle.numbers.specs.Interval.{Within};
+ghost use Rattle.numbers.specs.Rounding.{cut};
+ghost use Rattle.rules.specs.Curve.{points};
+ghost use Rattle.rules.specs.Load.{tableSound, loadAt, nextTime};
+use curves::checks;
+use curves::checks::Range;
+use curves::checks::Trend;
+use rules::quantities::Clock;
+use rules::quantities::Pressure;
+
+// Whether the first time is 0, times strictly rise, and times and loads keep their limits.
+pub fn table_sound<'a>(n: usize, time: &'a [u64; 64], load: &'a [u64; 64]) -> bool
+    requires { ⌜ n ≤ 64 ⌝ }
+    ensures { λ r. ⌜ r ≡ tableSound (points n (now (time .entry)) (now (load .entry))) ⌝ }
+{
+    if n > 0 && time[0] != 0 {
+        return false;
+    }
+    let clock = Range {
+        least: Clock::LEAST,
+        most: Clock::MOST,
+    };
+    let stress = Range {
+        least: Pressure::LEAST,
+        most: Pressure::MOST,
+    };
+    checks::neighbours_kept(Trend::Later, n, time, load)
+        && checks::points_kept(n, time, load, clock, stress)
+}
+
+// By how much a load changes to another.
+pub fn load_change(load0: u64, load1: u64) -> i64
+    requires { ⌜ (load0 ≤ 2_000_000_000) × (load1 ≤ 2_000_000_000) ⌝ }
+    ensures { λ r. ⌜ (r ≡ pos load1 -ℤ pos load0) × Within r 2_000_000_000 ⌝ }
+{
+    load1 as i64 - load0 as i64
+}
+
+// The load at a time between two points, cut from the first: a stress within its limits.
+pub fn load_between(time0: u64, load0: u64, time1: u64, load1: u64, clock: u64) -> i64
+    requires { ⌜ (time0 ≤ clock) × ((clock < time1) × (time1 ≤ 3_000_000_000)) ⌝ }
+    requires { ⌜ (load0 ≤ 2_000_000_000) × (load1 ≤ 2_000_000_000) ⌝ }
+    ensures { λ r. ⌜ r ≡ pos load0 +ℤ cut ((pos load1 -ℤ pos load0) *ℤ pos (clock - time0)) (time1 - time0) ⌝ }
+    ensures { λ r. ⌜ (pos 0 ≤ℤ r) × (r ≤ℤ pos 2_000_000_000) ⌝ }
+{
+    let change = load_change(load0, load1);
+    let passed = (clock - time0) as i64;
+    let whole = (time1 - time0) as i64;
+    load0 as i64 + numbers::cut(change * passed, whole)
+}
+
+// The load of a sound table at a time: a stress within its limits.
+pub fn load_at<'a>(n: usize, time: &'a [u64; 64], load: &'a [u64; 64], clock: u64) -> i64
+    requires { ⌜ (1 ≤ n) × (n ≤ 64) ⌝ }
+    requires { ⌜ tableSound (points n (now time) (now load)) ≡ true ⌝ }
+    ensures { λ r. ⌜ r ≡ loadAt (points n (now (time .entry)) (now (load .entry))) clock ⌝ }
+    ensures { λ r. ⌜ (pos 0 ≤ℤ r) × (r ≤ℤ pos 2_000_000_000) ⌝ }
+{
+    let mut i: usize = 0;
+    while i + 1 < n {
+        if clock < time[i + 1] {
+            return load_between(time[i], load[i], time[i + 1], load[i + 1], clock);
+        }
+        i += 1;
+    }
+    load[i] as i64
+}
+
+// The first table time after a time, or another time where there is none: the loads do not matter.
+pub fn next_time(n: usize, time: &[u64; 64], clock: u64, otherwise: u64) -> u64
+    requires { ⌜ n ≤ 64 ⌝ }
+    ensures { λ r. ⌜ ((load : List ℕ) → r ≡ nextTime (points n (now (time .entry)) load) clock otherwise) ⌝ }
+{
+    let mut i: usize = 0;
+    while i < n {
+        if clock < time[i] {
+            return time[i];
+        }
+        i += 1;
+    }
+    otherwise
+}
