@@ -3,7 +3,7 @@ ghost use mathlib.Core.Path.{_≡_};
 ghost use Prim.Native.Nat.{ℕ, _+_, _≤_, _<_};
 ghost use Rattle.curves.specs.Smooth.{Smooth};
 ghost use Rattle.numbers.specs.Interpolation.{distance};
-ghost use Rattle.rules.specs.Curve.{point, points, spans, interpolated, curveAt};
+ghost use Rattle.rules.specs.Curve.{point, points, spans, interpolated, curveAt, valueOf};
 use rules::quantities::CurveValue;
 
 // What a reading found, and the segment where it looked last: a hint for the next reading.
@@ -76,4 +76,14 @@ pub fn read<'a>(n: usize, xs: &'a [u64; 64], ys: &'a [u64; 64], x: u64, hint: us
         }
     }
     read_from_first(n, xs, ys, x)
+}
+
+// The value on the curve, 0 off it.
+pub fn value_of(value: CurveValue) -> u64
+    ensures { λ r. ⌜ r ≡ valueOf value ⌝ }
+{
+    match value {
+        CurveValue::On(on) => on,
+        CurveValue::Off => 0,
+    }
 }

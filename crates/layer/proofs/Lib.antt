@@ -2,3 +2,4 @@
 pub mod FlowsAt
 pub mod WaterAt
 pub mod WeightsAt
+pub mod ReadAt

@@ -9,6 +9,6 @@ use Rattle.numbers.specs.Interval.{Within}
 
 -- what enters an element is in range
 pub entering : (n : ℕ) (lowest : ℤ) (above : List ℤ) (water : List ℕ) → Movable n lowest above water → (j : ℕ) → j < n →
-    Within (getD (lowest ∷ above) j (pos 0)) 9_000_000_000_000_000
+    Within (getD (lowest ∷ above) j (pos 0)) 10_000_000_000_000_000
 entering n lowest above water m zero h = m .lowest-within
 entering n lowest above water m (suc j) h = m .above-within j (omega arith)

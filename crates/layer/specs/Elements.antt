@@ -28,7 +28,7 @@ HeldWithin (Drained held) = Within (held .0) 1_962_000_000
 
 -- what a step needs of the arrays: no pressure and no resistance is out of range
 pub record Readable (n : ℕ) (excess : List ℤ) (resistance : List ℕ) : Type 0 where
-  pub excess-within : (j : ℕ) → j < n → Within (getD excess j (pos 0)) 2_520_000_000
+  pub excess-within : (j : ℕ) → j < n → Within (getD excess j (pos 0)) 4_520_000_000
   pub resistance-positive : (j : ℕ) → j < n → 0 < getD resistance j 0
   pub resistance-most : (j : ℕ) → j < n → getD resistance j 0 ≤ 5_400_000_000_000
 

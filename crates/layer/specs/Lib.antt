@@ -1,4 +1,5 @@
 -- What the contracts of the layer cite beside the rules.
 pub mod Elements
 pub mod Water
+pub mod Soil
 pub mod Weights

@@ -21,6 +21,6 @@ staysAt lowest above water low high j = between (getD low j 0) (getD high j 0) (
 
 -- what moving water needs: no height and no flow is out of range
 pub record Movable (n : ℕ) (lowest : ℤ) (above : List ℤ) (water : List ℕ) : Type 0 where
-  pub lowest-within : Within lowest 9_000_000_000_000_000
-  pub above-within : (j : ℕ) → j < n → Within (getD above j (pos 0)) 9_000_000_000_000_000
+  pub lowest-within : Within lowest 10_000_000_000_000_000
+  pub above-within : (j : ℕ) → j < n → Within (getD above j (pos 0)) 10_000_000_000_000_000
   pub water-most : (j : ℕ) → j < n → getD water j 0 ≤ 1_000_000_000

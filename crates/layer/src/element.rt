@@ -55,7 +55,7 @@ pub fn excess_pressure(load: i64, burden: u64, stress: u64) -> i64
 
 // The flow of t seconds over a pressure difference through a resistance, cut toward zero.
 pub fn flow(difference: i64, t: u64, resistance: u64) -> i64
-    requires { ⌜ Within difference 9_000_000_000 ⌝ }
+    requires { ⌜ Within difference 10_000_000_000 ⌝ }
     requires { ⌜ t ≤ 1_000_000 ⌝ }
     requires { ⌜ (0 < resistance) × (resistance ≤ 11_000_000_000_000) ⌝ }
     ensures { λ r. ⌜ r ≡ cut (difference *ℤ pos t) resistance ⌝ }

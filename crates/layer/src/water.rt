@@ -11,7 +11,7 @@ ghost use Rattle.numbers.specs.Interval.{Within};
 // The water of an element less what leaves it and with what enters.
 pub fn new_water(water: u64, leaves: i64, enters: i64) -> i64
     requires { ⌜ water ≤ 1_000_000_000 ⌝ }
-    requires { ⌜ Within leaves 9_000_000_000_000_000 × Within enters 9_000_000_000_000_000 ⌝ }
+    requires { ⌜ Within leaves 10_000_000_000_000_000 × Within enters 10_000_000_000_000_000 ⌝ }
     ensures { λ r. ⌜ r ≡ pos water -ℤ leaves +ℤ enters ⌝ }
 {
     water as i64 - leaves + enters

@@ -18,7 +18,7 @@ module _ (c : tie.Start) where
   resistance-is : toZ w64 (c .args .resistance) ≡ pos (c .args .resistance)
   resistance-is = readUnsigned (c .args .resistance) (omega arith)
 
-  product : Within (c .args .difference *ℤ pos (c .args .t)) 9_000_000_000_000_000
+  product : Within (c .args .difference *ℤ pos (c .args .t)) 10_000_000_000_000_000
   product = within-mul (c .pre .0) (within-le {n = 1_000_000} (within-pos (c .args .t)) (omega arith))
 
   product-fits : SFits w64 (c .args .difference *ℤ pos (c .args .t))

@@ -24,7 +24,7 @@ module _ (c : tie.After-face) where
   held-fits : SFits w64 held
   held-fits = within-fits tt held-within
 
-  difference : Within (s .args .excess -ℤ held) 9_000_000_000
+  difference : Within (s .args .excess -ℤ held) 10_000_000_000
   difference = within-le (within-sub (s .pre .0) held-within) (omega arith)
 
   difference-fits : SFits w64 (s .args .excess -ℤ held)

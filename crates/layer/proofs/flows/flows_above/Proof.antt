@@ -41,7 +41,7 @@ module _ (l : tie.At-loop Inv-loop μ-loop) where
   p-fits : (i : ℕ) → i < s .args .n → SFits w64 (p i)
   p-fits i h = within-fits tt (readable .excess-within i h)
 
-  difference : j + 1 < s .args .n → Within (p j -ℤ p (j + 1)) 9_000_000_000
+  difference : j + 1 < s .args .n → Within (p j -ℤ p (j + 1)) 10_000_000_000
   difference h =
       within-le (within-sub (readable .excess-within j (omega arith)) (readable .excess-within (j + 1) h)) (lit≤ tt)
 

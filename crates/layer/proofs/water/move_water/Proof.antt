@@ -60,7 +60,7 @@ module _ (l : tie.At-loop Inv-loop μ-loop) where
   here : getD (l .loop .water) j 0 ≡ getD water j 0
   here = ap (λ (w : List ℕ). getD w j 0) moved ∙ getD-filled-past water j new j 0 (le-refl j)
 
-  enters-within : j < s .args .n → Within (getD (lowest ∷ above) j (pos 0)) 9_000_000_000_000_000
+  enters-within : j < s .args .n → Within (getD (lowest ∷ above) j (pos 0)) 10_000_000_000_000_000
   enters-within h = entering (s .args .n) lowest above water movable j h
 
   above-fits : j < s .args .n → SFits w64 (getD above j (pos 0))

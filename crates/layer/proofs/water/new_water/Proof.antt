@@ -13,7 +13,7 @@ module _ (c : tie.Start) where
   water-is : toZ w64 (c .args .water) ≡ pos (c .args .water)
   water-is = readUnsigned (c .args .water) (omega arith)
 
-  less : Within (pos (c .args .water) -ℤ c .args .leaves) 9_000_001_000_000_000
+  less : Within (pos (c .args .water) -ℤ c .args .leaves) 10_000_001_000_000_000
   less = within-sub (within-le {n = 1_000_000_000} (within-pos (c .args .water)) (omega arith)) (c .pre .1 .0)
 
   less-fits : SFits w64 (pos (c .args .water) -ℤ c .args .leaves)

@@ -55,7 +55,7 @@ module _ (l : tie.At-loop Inv-loop μ-loop) where
   rest = simp back at (l .loop .inv .2)
 
   -- what enters is the flow of the face below
-  enters-within : j < s .args .n → Within (getD (lowest ∷ above) j (pos 0)) 9_000_000_000_000_000
+  enters-within : j < s .args .n → Within (getD (lowest ∷ above) j (pos 0)) 10_000_000_000_000_000
   enters-within h = entering (s .args .n) lowest above (s .args .water .now) movable j h
 
   above-fits : j < s .args .n → SFits w64 (getD above j (pos 0))

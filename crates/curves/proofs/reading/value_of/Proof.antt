@@ -1,0 +1,21 @@
+use Rattle.rules.specs.Curve.{valueOf}
+use borrow.Author.Needs.{needs}
+use Rattle.curves.proofs.reading.value_of.Statement.{statement}
+use Rattle.curves.proofs.reading.value_of.Tie as tie
+
+enum-known-value : tie.Need-enum-known-value
+enum-known-value c = search needs
+
+enum-told : tie.Need-enum-told
+enum-told c = search needs
+
+returns : tie.Need-returns
+unfolding valueOf
+returns c = rw (c .before .value .given .1)
+
+returns-2 : tie.Need-returns-2
+unfolding valueOf
+returns-2 c = rw (c .enum-told .given .1)
+
+pub value-of-spec : {M : Type 1} → statement M
+value-of-spec = tie.close (tie.spec enum-known-value enum-told returns returns-2)

@@ -1,0 +1,35 @@
+-- What reading an element needs: two sound curves, and an element on the first.
+use Prim.Native.Nat.{ℕ, _≤_, _<_}
+use lib.IntN.{ℤ}
+use mathlib.Core.Bool.{true}
+use mathlib.Core.List.{List}
+use mathlib.Core.Path.{_≡_}
+use Rattle.numbers.specs.Interval.{Within}
+use lib.ListN.{getD}
+use Rattle.rules.specs.Curve.{Point, points, isOn, compressibilitySound, conductivitySound}
+use Rattle.rules.specs.Layer.{effectiveStress, excessPressure, resistance}
+
+-- both curves as arrays, each with 2 to 64 points
+pub record Soil (m : ℕ) (void stress : List ℕ) (n : ℕ) (conductivityVoid conductivity : List ℕ) : Type 0 where
+  pub compressibility-few : 2 ≤ m
+  pub compressibility-many : m ≤ 64
+  pub conductivity-few : 2 ≤ n
+  pub conductivity-many : n ≤ 64
+  pub compressibility-sound : compressibilitySound (points m void stress) ≡ true
+  pub conductivity-sound : conductivitySound (points n conductivityVoid conductivity) (points m void stress) ≡ true
+
+-- an element on the curve, with its load and burden in range
+pub record OnSoil (m : ℕ) (void stress : List ℕ) (load : ℤ) (burden solids water : ℕ) : Type 0 where
+  pub load-within : Within load 2_000_000_000
+  pub burden-most : burden ≤ 510_000_000
+  pub solids-positive : 0 < solids
+  pub solids-most : solids ≤ 100_000_000
+  pub on-curve : isOn (effectiveStress (points m void stress) solids water) ≡ true
+
+-- p and r of element j, as arrays hold the layer
+abbrev pub excessAt : (compressibility : List Point) (load : ℤ) (burden solids water : List ℕ) → ℕ → ℤ
+excessAt compressibility load burden solids water j =
+    excessPressure compressibility load (getD burden j 0) (getD solids j 0) (getD water j 0)
+
+abbrev pub resistanceAt : (conductivity : List Point) (solids water : List ℕ) → ℕ → ℕ
+resistanceAt conductivity solids water j = resistance conductivity (getD solids j 0) (getD water j 0)

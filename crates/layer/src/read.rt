@@ -1,0 +1,102 @@
+// What a step reads of an element, and of all elements.
+ghost use lib.IntN.{ℤ, pos};
+ghost use lib.ListN.{length, getD};
+ghost use mathlib.Core.Path.{_≡_};
+ghost use Prim.Native.Nat.{ℕ, _+_, _≤_, _<_};
+ghost use Rattle.layer.specs.Soil.{Soil, OnSoil, excessAt, resistanceAt};
+ghost use Rattle.numbers.specs.Arrays.{filled};
+ghost use Rattle.rules.specs.Curve.{points};
+ghost use Rattle.rules.specs.Layer.{excessPressure, resistance};
+use crate::element;
+use curves::reading;
+
+// An element as read, with the segments of both curves where it was found.
+pub struct Read {
+    pub excess: i64,
+    pub resistance: u64,
+    pub stress_segment: usize,
+    pub conductivity_segment: usize,
+}
+
+// Reads one element, from the segments where it was found last.
+pub fn read_element<'a>(
+    load: i64,
+    burden: u64,
+    solids: u64,
+    water: u64,
+    m: usize,
+    void: &'a [u64; 64],
+    stress: &'a [u64; 64],
+    n: usize,
+    conductivity_void: &'a [u64; 64],
+    conductivity: &'a [u64; 64],
+    stress_hint: usize,
+    conductivity_hint: usize,
+) -> Read
+    requires { ⌜ Soil m (now void) (now stress) n (now «conductivity_void») (now conductivity) ⌝ }
+    requires { ⌜ OnSoil m (now void) (now stress) load burden solids water ⌝ }
+    ensures { λ r. ⌜ (r .excess ≡ excessPressure (points m (now (void .entry)) (now (stress .entry))) load burden solids water) × (r .resistance ≡ resistance (points n (now («conductivity_void» .entry)) (now (conductivity .entry))) solids water) ⌝ }
+    ensures { λ r. ⌜ (r .«stress_segment» + 1 < m) × (r .«conductivity_segment» + 1 < n) ⌝ }
+{
+    let ratio = element::void_ratio(solids, water);
+    let found = reading::read(m, void, stress, ratio, stress_hint);
+    let passed = reading::read(n, conductivity_void, conductivity, ratio, conductivity_hint);
+    let stress_value = found.value;
+    let conductivity_value = passed.value;
+    Read {
+        excess: element::excess_pressure(load, burden, reading::value_of(stress_value)),
+        resistance: element::resistance(solids, water, reading::value_of(conductivity_value)),
+        stress_segment: found.segment,
+        conductivity_segment: passed.segment,
+    }
+}
+
+// Reads every element: excess pressures and resistances in the first places, the segments beside them.
+pub fn read_elements<'a>(
+    count: usize,
+    load: i64,
+    burden: &'a [u64; 128],
+    solids: &'a [u64; 128],
+    water: &'a [u64; 128],
+    m: usize,
+    void: &'a [u64; 64],
+    stress: &'a [u64; 64],
+    n: usize,
+    conductivity_void: &'a [u64; 64],
+    conductivity: &'a [u64; 64],
+    stress_segment: &mut [usize; 128],
+    conductivity_segment: &mut [usize; 128],
+    excess: &mut [i64; 128],
+    resistance: &mut [u64; 128],
+)
+    requires { ⌜ count ≤ 128 ⌝ }
+    requires { ⌜ Soil m (now void) (now stress) n (now «conductivity_void») (now conductivity) ⌝ }
+    requires { ⌜ ((j : ℕ) → j < count → OnSoil m (now void) (now stress) load (getD (now burden) j 0) (getD (now solids) j 0) (getD (now water) j 0)) ⌝ }
+    requires { ⌜ (length (now excess) ≡ 128) × (length (now resistance) ≡ 128) ⌝ }
+    ensures { λ _. ⌜ now (excess .exit) ≡ filled (now (excess .entry)) count (excessAt (points m (now (void .entry)) (now (stress .entry))) load (now (burden .entry)) (now (solids .entry)) (now (water .entry))) ⌝ }
+    ensures { λ _. ⌜ now (resistance .exit) ≡ filled (now (resistance .entry)) count (resistanceAt (points n (now («conductivity_void» .entry)) (now (conductivity .entry))) (now (solids .entry)) (now (water .entry))) ⌝ }
+{
+    let mut j: usize = 0;
+    while j < count {
+        let one = read_element(
+            load,
+            burden[j],
+            solids[j],
+            water[j],
+            m,
+            void,
+            stress,
+            n,
+            conductivity_void,
+            conductivity,
+            stress_segment[j],
+            conductivity_segment[j],
+        );
+        let pressure = one.excess;
+        excess[j] = pressure;
+        resistance[j] = one.resistance;
+        stress_segment[j] = one.stress_segment;
+        conductivity_segment[j] = one.conductivity_segment;
+        j += 1;
+    }
+}
