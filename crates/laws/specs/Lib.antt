@@ -1,6 +1,29 @@
 -- What is true of the rules.
+-- lists
+pub mod Every
+-- curves
 pub mod Segment
 pub mod Rising
-pub mod Slope
 pub mod Ranges
+pub mod Slope
 pub mod VoidRatio
+pub mod Bounds
+-- the maximum principle
+pub mod Reading
+pub mod Amid
+pub mod Flow
+pub mod Principle
+pub mod Contacts
+pub mod OnCurve
+pub mod Spread
+-- the ranges of what a step reads and of what flows out
+pub mod Excess
+pub mod Outflow
+-- the balance of water
+pub mod Lengths
+pub mod Balance
+-- the longest step
+pub mod Longest
+pub mod Shorten
+-- lists by index, as loops over arrays read them
+pub mod Index

@@ -81,3 +81,12 @@ covered l (a ∷ b ∷ rest) x r c f t =
     let s = spans-bounds a z x (on-inside a b rest x (falling-way (a ∷ b ∷ rest) f .1) t .spanned) in
     let first-on = both (on a) (all on (b ∷ rest)) c .0 in
     no-gap l a.abscissa (z .abscissa) x (rising-way l r .1) first-on (all-last on a (b ∷ rest) c) (s .0) (s .1)
+
+-- so what is on a sound compressibility curve is on the sound conductivity curve beside it
+pub conducts : (l first : List Point) (x : ℕ) → T (compressibilitySound first) → T (conductivitySound l first) →
+    T (isOn (curveAt first x)) → T (isOn (curveAt l x))
+unfolding compressibilitySound conductivitySound
+conducts l first x sound sound′ on =
+    let (kept, c) = both (all (keeps voidLimits conductivityLimits) l && rising l) (covers l first) sound′ in
+    let r = both (all (keeps voidLimits conductivityLimits) l) (rising l) kept .1 in
+    covered l first x r c (both (all (keeps voidLimits stressLimits) first) (falling first) sound .1) on

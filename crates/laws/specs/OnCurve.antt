@@ -1,0 +1,29 @@
+-- What a step that stays on the curve leaves: water on the curve, and none of it negative.
+use Prim.Native.Nat.{ℕ}
+use lib.Dec.{T}
+use lib.IntN.{ℤ, pos, negsuc, natAbs}
+use mathlib.Core.Bool.{Bool, true, false, not}
+use mathlib.Core.List.{List}
+use mathlib.Core.Path.{_≡_, refl}
+use Rattle.rules.specs.Curve.{Point, isOn}
+use Rattle.rules.specs.Layer.{Site, State, elements, effectiveStress}
+use Rattle.rules.specs.Step.{upwardFlows, moved, onCurve, allOnCurve, leavesCurve}
+
+-- water on the curve is not negative, and its effective stress is read
+pub on-curve-parts : (curve : List Point) (S : ℕ) (z : ℤ) → T (onCurve curve S z) →
+    (pos (natAbs z) ≡ z) × T (isOn (effectiveStress curve S (natAbs z)))
+unfolding onCurve
+on-curve-parts curve S (pos W) t = (refl, t)
+on-curve-parts curve S (negsuc W) t = absurd t
+
+-- all new water of a step that does not leave the curve is on it
+pub stays-on : (site : Site) (s : State) (t : ℕ) → T (not (leavesCurve site s t)) →
+    T (allOnCurve site.compressibility site.solids (moved (upwardFlows site.top site.bottom t (elements site s)) s.water))
+unfolding leavesCurve
+stays-on site s t h =
+    let new = moved (upwardFlows site.top site.bottom t (elements site s)) s.water in
+    twice-not (allOnCurve site.compressibility site.solids new) h
+  where
+    twice-not : (b : Bool) → T (not (not b)) → T b
+    twice-not true t = tt
+    twice-not false t = absurd t
