@@ -7,6 +7,7 @@ use lib.ListN.{length, getD}
 use mathlib.Core.Bool.{Bool, true, false, not, _||_}
 use mathlib.Core.List.{List, [], _∷_, _++_}
 use mathlib.Core.Logic.{_↔_}
+use Rattle.numbers.specs.Arrays.{tabulate}
 use Rattle.numbers.specs.Lists.{all, any}
 use Rattle.numbers.specs.Searches.{both, joined}
 
@@ -39,6 +40,12 @@ module _ {A : Type 0} where
     unfolding Every
     at-every [] d h = tt
     at-every (a ∷ rest) d h = (h 0 (omega arith), at-every rest d (λ i k. h (suc i) (omega arith)))
+
+    -- what holds of each entry that a list is made of holds of every entry
+    pub every-tabulate : (n : ℕ) (f : ℕ → A) → ((i : ℕ) → i < n → P (f i)) → Every P (tabulate n f)
+    unfolding Every tabulate
+    every-tabulate zero f h = tt
+    every-tabulate (suc n) f h = (h zero (omega arith), every-tabulate n (λ k. f (suc k)) (λ i k. h (suc i) (omega arith)))
 
     -- it holds of two lists joined just where it holds of each
     pub every-append : (l m : List A) → Every P (l ++ m) ↔ (Every P l × Every P m)

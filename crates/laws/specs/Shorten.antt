@@ -2,11 +2,11 @@
 use Prim.Native.Nat.{ℕ, _*_, _≤_, _<_, min, max}
 use native.Mathlib.Nat.{le-refl, le-antisymm, mul-le-mul-left, mul-le-mul-right, div-lt-iff-lt-mul, div-mul-le-self}
 use native.Mathlib.Omega.{arith}
-use lib.Dec.{leb, ltb, ltb→lt, nltb→le, leb→le, nleb→lt}
-use mathlib.Core.Bool.{Bool, not, cond}
-use mathlib.Core.List.{List, [], _∷_}
+use lib.Dec.{T, leb, ltb, ltb→lt, nltb→le, leb→le, nleb→lt}
+use mathlib.Core.Bool.{Bool, true, false, not, cond}
+use mathlib.Core.List.{List, [], _∷_, _++_}
 use mathlib.Core.Logic.{_↔_}
-use mathlib.Core.Path.{_≡_, ap}
+use mathlib.Core.Path.{_≡_, refl, ap}
 use Rattle.numbers.specs.Rounding.{floor}
 use Rattle.numbers.specs.Division.{le-floor}
 use Rattle.numbers.specs.Lists.{any, greatest}
@@ -44,6 +44,12 @@ unfoldable pub shortened : (K most : ℕ) → List Contact → ℕ
 shortened K most [] = most
 shortened K most (c ∷ rest) = shortened K (min most (floor c.faceResistance (2 * c.sensitivity * K))) rest
 
+-- for two lists of contacts, one after the other
+pub shortened-append : (K most : ℕ) (l m : List Contact) → shortened K most (l ++ m) ≡ shortened K (shortened K most l) m
+unfolding shortened
+shortened-append K most [] m = refl
+shortened-append K most (c ∷ rest) m = shortened-append K (min most (floor c.faceResistance (2 * c.sensitivity * K))) rest m
+
 -- a step is no longer than the shortened just where it is no longer than the given one and short enough for every contact
 pub le-shortened : (K most : ℕ) (cs : List Contact) → Every (Limiting K) cs → (t : ℕ) →
     (t ≤ shortened K most cs) ↔ ((t ≤ most) × Every (ShortFor K t) cs)
@@ -68,6 +74,25 @@ greatest-shortened K most cs p =
     let (reach, short) = of-greatest g .0 (le-refl g) in
     let (reach′, short′) = of-shortened u .0 (le-refl u) in
     le-antisymm (of-shortened g .1 (reach, short-enough K cs g .0 short)) (of-greatest u .1 (reach′, short-enough K cs u .1 short′))
+
+-- a test that passed did not fail
+not-both : (b : Bool) → T b → T (not b) → ⊥
+not-both true s k = k
+not-both false s k = s
+
+-- a step is too long just where the shortened one is shorter
+pub too-long-shortened : (K t : ℕ) (cs : List Contact) → Every (Limiting K) cs → ltb (shortened K t cs) t ≡ any (tooLongAt K t) cs
+too-long-shortened K t cs p =
+    let reached = le-shortened K t cs p t in
+    let enough = short-enough K cs t in
+    by-test (ltb (shortened K t cs) t) (λ b. b ≡ any (tooLongAt K t) cs)
+    (λ s.
+    by-test (any (tooLongAt K t) cs) (λ b. true ≡ b) (λ _. refl)
+    (λ k. let short = reached .1 (le-refl t, enough .0 k) in absurd (omega (arith, ltb→lt (shortened K t cs) t s))))
+    (λ s.
+    by-test (any (tooLongAt K t) cs) (λ b. false ≡ b)
+    (λ k. absurd (not-both (any (tooLongAt K t) cs) k (enough .1 (reached .0 (nltb→le (shortened K t cs) t s) .1))))
+    (λ _. refl))
 
 -- ---- two contacts with one face
 

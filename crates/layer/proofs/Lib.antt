@@ -3,3 +3,4 @@ pub mod FlowsAt
 pub mod WaterAt
 pub mod WeightsAt
 pub mod ReadAt
+pub mod ReachAt

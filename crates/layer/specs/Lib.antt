@@ -2,4 +2,5 @@
 pub mod Elements
 pub mod Water
 pub mod Soil
+pub mod Reach
 pub mod Weights
