@@ -4,6 +4,7 @@ ghost use Prim.Native.Nat.{ℕ, _+_, _≤_, _<_};
 ghost use Rattle.curves.specs.Smooth.{Smooth};
 ghost use Rattle.numbers.specs.Interpolation.{distance};
 ghost use Rattle.rules.specs.Curve.{point, points, spans, interpolated, curveAt, valueOf};
+ghost use Rattle.rules.specs.Quantities.{stressLimits, voidLimits};
 use rules::quantities::CurveValue;
 
 // What a reading found, and the segment where it looked last: a hint for the next reading.
@@ -25,8 +26,8 @@ pub fn spans(x0: u64, x1: u64, x: u64) -> bool
 
 // The ordinate at x on a segment that spans it.
 pub fn interpolated(x0: u64, y0: u64, x1: u64, y1: u64, x: u64) -> u64
-    requires { ⌜ (0 < distance x0 x1) × (distance x0 x ≤ 1_000_000_000) ⌝ }
-    requires { ⌜ (y0 ≤ y1) × (y1 ≤ 2_000_000_000) ⌝ }
+    requires { ⌜ (0 < distance x0 x1) × (distance x0 x ≤ voidLimits .most) ⌝ }
+    requires { ⌜ (y0 ≤ y1) × (y1 ≤ stressLimits .most) ⌝ }
     requires { ⌜ distance x0 x ≤ distance x0 x1 ⌝ }
     ensures { λ r. ⌜ r ≡ interpolated (point x0 y0) (point x1 y1) x ⌝ }
 {

@@ -4,11 +4,12 @@ ghost use mathlib.Core.Path.{_≡_};
 ghost use Prim.Native.Nat.{ℕ, _+_, _-_, _≤_, _<_};
 ghost use Rattle.numbers.specs.Rounding.{ceil};
 ghost use Rattle.rules.specs.Curve.{points, compressibilitySound, steepness};
+ghost use Rattle.rules.specs.Quantities.{stressLimits, voidLimits};
 
 // The steepness of one segment.
 pub fn segment_steepness(void0: u64, stress0: u64, void1: u64, stress1: u64) -> u64
     requires { ⌜ (void1 < void0) × (stress0 ≤ stress1) ⌝ }
-    requires { ⌜ (void0 ≤ 1_000_000_000) × (stress1 ≤ 2_000_000_000) ⌝ }
+    requires { ⌜ (void0 ≤ voidLimits .most) × (stress1 ≤ stressLimits .most) ⌝ }
     ensures { λ r. ⌜ r ≡ ceil (stress1 - stress0) (void0 - void1) ⌝ }
 {
     numbers::ceil(stress1 - stress0, void0 - void1)

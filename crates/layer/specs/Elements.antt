@@ -10,6 +10,37 @@ use Rattle.rules.specs.Step.{flowsAbove}
 use Rattle.rules.specs.declared.quantities.Face.{Face}
 use Rattle.rules.specs.declared.quantities.Face.the-variants.{Closed, Drained}
 
+-- ---- the most that these can be, from the limits of a job
+
+-- B: 128 elements of the greatest weight
+abbrev pub mostBurden : ℕ
+mostBurden = 510_000_000
+
+-- p, above and below zero
+abbrev pub mostExcess : ℕ
+mostExcess = 4_520_000_000
+
+-- what a drained face holds: the pressure of the greatest head
+abbrev pub mostHeld : ℕ
+mostHeld = 1_962_000_000
+
+-- between two elements, or an element and a drained face
+abbrev pub mostDifference : ℕ
+mostDifference = 10_000_000_000
+
+-- r, and R of an inner face
+abbrev pub mostResistance : ℕ
+mostResistance = 5_400_000_000_000
+
+abbrev pub mostFaceResistance : ℕ
+mostFaceResistance = 11_000_000_000_000
+
+-- c
+abbrev pub mostSensitivity : ℕ
+mostSensitivity = 100_000_000
+
+-- ---- elements
+
 abbrev pub elementOf : (excess : ℤ) (resistance sensitivity : ℕ) → Element
 elementOf excess resistance sensitivity = record { excess = excess; resistance = resistance; sensitivity = sensitivity }
 
@@ -24,13 +55,13 @@ elementsIn n excess resistance sensitivity = tabulate n (elementIn excess resist
 -- a drained face holds at most the pressure of the greatest head
 unfoldable pub HeldWithin : Face → Type 0
 HeldWithin Closed = Unit {0}
-HeldWithin (Drained held) = Within (held .0) 1_962_000_000
+HeldWithin (Drained held) = Within (held .0) mostHeld
 
 -- what a step needs of the arrays: no pressure and no resistance is out of range
 pub record Readable (n : ℕ) (excess : List ℤ) (resistance : List ℕ) : Type 0 where
-  pub excess-within : (j : ℕ) → j < n → Within (getD excess j (pos 0)) 4_520_000_000
+  pub excess-within : (j : ℕ) → j < n → Within (getD excess j (pos 0)) mostExcess
   pub resistance-positive : (j : ℕ) → j < n → 0 < getD resistance j 0
-  pub resistance-most : (j : ℕ) → j < n → getD resistance j 0 ≤ 5_400_000_000_000
+  pub resistance-most : (j : ℕ) → j < n → getD resistance j 0 ≤ mostResistance
 
 -- up through the upper face of element j
 unfoldable pub flowAbove : (top : Face) (t n : ℕ) (excess : List ℤ) (resistance : List ℕ) → ℕ → ℤ

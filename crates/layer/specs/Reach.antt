@@ -3,7 +3,7 @@ use Prim.Native.Nat.{ℕ, _≤_, _<_}
 use lib.ListN.{getD}
 use mathlib.Core.Bool.{Bool, not}
 use mathlib.Core.List.{List, []}
-use Rattle.layer.specs.Elements.{elementsIn}
+use Rattle.layer.specs.Elements.{mostResistance, mostSensitivity, elementsIn}
 use Rattle.numbers.specs.Lists.{any, greatest}
 use Rattle.rules.specs.Step.{Contact, contacts, tooLongAt}
 use Rattle.rules.specs.declared.quantities.Face.{Face}
@@ -22,6 +22,6 @@ longestWithin top bottom slope n resistance sensitivity most = greatest most (λ
 
 -- what the longest step needs: no resistance and no sensitivity is out of range
 pub record Limited (n : ℕ) (resistance sensitivity : List ℕ) : Type 0 where
-  pub resistance-most : (j : ℕ) → j < n → getD resistance j 0 ≤ 5_400_000_000_000
+  pub resistance-most : (j : ℕ) → j < n → getD resistance j 0 ≤ mostResistance
   pub sensitivity-positive : (j : ℕ) → j < n → 0 < getD sensitivity j 0
-  pub sensitivity-most : (j : ℕ) → j < n → getD sensitivity j 0 ≤ 100_000_000
+  pub sensitivity-most : (j : ℕ) → j < n → getD sensitivity j 0 ≤ mostSensitivity

@@ -6,6 +6,8 @@ use mathlib.Core.List.{List}
 use mathlib.Core.Path.{_≡_}
 use Rattle.numbers.specs.Interval.{Within}
 use lib.ListN.{getD}
+use Rattle.layer.specs.Elements.{mostBurden}
+use Rattle.rules.specs.Quantities.{stressLimits, solidsLimits}
 use Rattle.rules.specs.Curve.{Point, points, isOn, compressibilitySound, conductivitySound}
 use Rattle.rules.specs.Layer.{effectiveStress, excessPressure, resistance}
 
@@ -20,10 +22,10 @@ pub record Soil (m : ℕ) (void stress : List ℕ) (n : ℕ) (conductivityVoid c
 
 -- an element on the curve, with its load and burden in range
 pub record OnSoil (m : ℕ) (void stress : List ℕ) (load : ℤ) (burden solids water : ℕ) : Type 0 where
-  pub load-within : Within load 2_000_000_000
-  pub burden-most : burden ≤ 510_000_000
+  pub load-within : Within load (stressLimits .most)
+  pub burden-most : burden ≤ mostBurden
   pub solids-positive : 0 < solids
-  pub solids-most : solids ≤ 100_000_000
+  pub solids-most : solids ≤ solidsLimits .most
   pub on-curve : isOn (effectiveStress (points m void stress) solids water) ≡ true
 
 -- p and r of element j, as arrays hold the layer

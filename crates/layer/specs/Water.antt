@@ -6,6 +6,14 @@ use lib.Signed.{leZ}
 use mathlib.Core.Bool.{Bool, _&&_}
 use mathlib.Core.List.{List, _∷_}
 use Rattle.numbers.specs.Interval.{Within}
+use Rattle.rules.specs.Quantities.{waterLimits}
+
+-- the most that flows through a face in a step, and the most that a bound of water can be
+abbrev pub mostFlow : ℕ
+mostFlow = 10_000_000_000_000_000
+
+abbrev pub mostBound : ℕ
+mostBound = 1_000_000_000_000
 
 -- the new water of element j: less what leaves by its upper face, and what enters by its lower, the lowest being the bottom
 abbrev pub newWater : (lowest : ℤ) (above : List ℤ) (water : List ℕ) → ℕ → ℤ
@@ -21,6 +29,6 @@ staysAt lowest above water low high j = between (getD low j 0) (getD high j 0) (
 
 -- what moving water needs: no height and no flow is out of range
 pub record Movable (n : ℕ) (lowest : ℤ) (above : List ℤ) (water : List ℕ) : Type 0 where
-  pub lowest-within : Within lowest 10_000_000_000_000_000
-  pub above-within : (j : ℕ) → j < n → Within (getD above j (pos 0)) 10_000_000_000_000_000
-  pub water-most : (j : ℕ) → j < n → getD water j 0 ≤ 1_000_000_000
+  pub lowest-within : Within lowest mostFlow
+  pub above-within : (j : ℕ) → j < n → Within (getD above j (pos 0)) mostFlow
+  pub water-most : (j : ℕ) → j < n → getD water j 0 ≤ waterLimits .most

@@ -5,6 +5,7 @@ ghost use mathlib.Core.Path.{_≡_};
 ghost use Prim.Native.Nat.{ℕ, _+_, _≤_, _<_};
 ghost use Rattle.layer.specs.Elements.{Readable, HeldWithin, flowAbove};
 ghost use Rattle.numbers.specs.Arrays.{filled};
+ghost use Rattle.rules.specs.Quantities.{stepLimits};
 use crate::element;
 use rules::quantities::Face;
 
@@ -19,7 +20,7 @@ pub fn flows_above<'a>(
 )
     requires { ⌜ (0 < n) × (n ≤ 128) ⌝ }
     requires { ⌜ HeldWithin top ⌝ }
-    requires { ⌜ t ≤ 1_000_000 ⌝ }
+    requires { ⌜ t ≤ stepLimits .most ⌝ }
     requires { ⌜ Readable n (now excess) (now resistance) ⌝ }
     requires { ⌜ length (now above) ≡ 128 ⌝ }
     ensures { λ _. ⌜ now (above .exit) ≡ filled (now (above .entry)) n (flowAbove top t n (now (excess .entry)) (now (resistance .entry))) ⌝ }

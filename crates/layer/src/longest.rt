@@ -4,17 +4,18 @@ ghost use lib.ListN.{length, getD};
 ghost use mathlib.Core.Bool.{Bool, not};
 ghost use mathlib.Core.Path.{_≡_};
 ghost use Prim.Native.Nat.{ℕ, _+_, _*_, _≤_, _<_, min, max};
-ghost use Rattle.layer.specs.Elements.{elementOf};
+ghost use Rattle.layer.specs.Elements.{elementOf, mostFaceResistance, mostSensitivity};
 ghost use Rattle.layer.specs.Reach.{Limited, touching, longestWithin, isTooLong};
 ghost use Rattle.laws.specs.Shorten.{shortened};
 ghost use Rattle.numbers.specs.Rounding.{floor};
 ghost use Rattle.rules.specs.Step.{outerContacts};
+ghost use Rattle.rules.specs.Quantities.{stressLimits, stepLimits};
 use rules::quantities::Face;
 
 // A step shortened to a quotient, divided only where the step is longer.
 pub fn shorten(t: u64, divisor: u64, resistance: u64) -> u64
-    requires { ⌜ (0 < divisor) × (t ≤ 1_000_000) ⌝ }
-    requires { ⌜ resistance ≤ 11_000_000_000_000 ⌝ }
+    requires { ⌜ (0 < divisor) × (t ≤ stepLimits .most) ⌝ }
+    requires { ⌜ resistance ≤ mostFaceResistance ⌝ }
     ensures { λ r. ⌜ r ≡ min t (floor resistance divisor) ⌝ }
 {
     if resistance < divisor {
@@ -29,11 +30,11 @@ pub fn shorten(t: u64, divisor: u64, resistance: u64) -> u64
 
 // A step shortened for both elements of an inner face.
 pub fn shorten_inner(t: u64, slope: u64, below: u64, above: u64, resistance: u64) -> u64
-    requires { ⌜ t ≤ 1_000_000 ⌝ }
-    requires { ⌜ (0 < slope) × (slope ≤ 2_000_000_000) ⌝ }
-    requires { ⌜ (0 < below) × (below ≤ 100_000_000) ⌝ }
-    requires { ⌜ (0 < above) × (above ≤ 100_000_000) ⌝ }
-    requires { ⌜ resistance ≤ 11_000_000_000_000 ⌝ }
+    requires { ⌜ t ≤ stepLimits .most ⌝ }
+    requires { ⌜ (0 < slope) × (slope ≤ stressLimits .most) ⌝ }
+    requires { ⌜ (0 < below) × (below ≤ mostSensitivity) ⌝ }
+    requires { ⌜ (0 < above) × (above ≤ mostSensitivity) ⌝ }
+    requires { ⌜ resistance ≤ mostFaceResistance ⌝ }
     ensures { λ r. ⌜ r ≡ min t (floor resistance (2 * max below above * slope)) ⌝ }
 {
     shorten(t, 2 * numbers::greater(below, above) * slope, resistance)
@@ -41,10 +42,10 @@ pub fn shorten_inner(t: u64, slope: u64, below: u64, above: u64, resistance: u64
 
 // A step shortened for an element and an outer face: not at all if it is closed.
 pub fn shorten_outer(face: Face, t: u64, slope: u64, sensitivity: u64, resistance: u64) -> u64
-    requires { ⌜ t ≤ 1_000_000 ⌝ }
-    requires { ⌜ (0 < slope) × (slope ≤ 2_000_000_000) ⌝ }
-    requires { ⌜ (0 < sensitivity) × (sensitivity ≤ 100_000_000) ⌝ }
-    requires { ⌜ resistance ≤ 11_000_000_000_000 ⌝ }
+    requires { ⌜ t ≤ stepLimits .most ⌝ }
+    requires { ⌜ (0 < slope) × (slope ≤ stressLimits .most) ⌝ }
+    requires { ⌜ (0 < sensitivity) × (sensitivity ≤ mostSensitivity) ⌝ }
+    requires { ⌜ resistance ≤ mostFaceResistance ⌝ }
     ensures { λ r. ⌜ (r ≡ shortened slope t (outerContacts face (elementOf (pos 0) resistance sensitivity))) × (r ≤ t) ⌝ }
 {
     match face {
@@ -64,9 +65,9 @@ pub fn longest<'a>(
     most: u64,
 ) -> u64
     requires { ⌜ (0 < n) × (n ≤ 128) ⌝ }
-    requires { ⌜ (0 < slope) × (slope ≤ 2_000_000_000) ⌝ }
+    requires { ⌜ (0 < slope) × (slope ≤ stressLimits .most) ⌝ }
     requires { ⌜ Limited n (now resistance) (now sensitivity) ⌝ }
-    requires { ⌜ most ≤ 1_000_000 ⌝ }
+    requires { ⌜ most ≤ stepLimits .most ⌝ }
     ensures { λ r. ⌜ r ≡ longestWithin top bottom slope n (now (resistance .entry)) (now (sensitivity .entry)) most ⌝ }
 {
     let mut t = shorten_outer(bottom, most, slope, sensitivity[0], resistance[0]);
@@ -95,9 +96,9 @@ pub fn too_long<'a>(
     t: u64,
 ) -> bool
     requires { ⌜ (0 < n) × (n ≤ 128) ⌝ }
-    requires { ⌜ (0 < slope) × (slope ≤ 2_000_000_000) ⌝ }
+    requires { ⌜ (0 < slope) × (slope ≤ stressLimits .most) ⌝ }
     requires { ⌜ Limited n (now resistance) (now sensitivity) ⌝ }
-    requires { ⌜ t ≤ 1_000_000 ⌝ }
+    requires { ⌜ t ≤ stepLimits .most ⌝ }
     ensures { λ r. ⌜ r ≡ isTooLong top bottom slope n (now (resistance .entry)) (now (sensitivity .entry)) t ⌝ }
 {
     longest(n, top, bottom, slope, resistance, sensitivity, t) < t

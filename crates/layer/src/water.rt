@@ -4,14 +4,15 @@ ghost use lib.ListN.{length, getD};
 ghost use lib.Signed.{_≤ℤ_};
 ghost use mathlib.Core.Path.{_≡_};
 ghost use Prim.Native.Nat.{ℕ, _+_, _≤_, _<_};
-ghost use Rattle.layer.specs.Water.{newWater, between, staysAt, Movable};
+ghost use Rattle.layer.specs.Water.{newWater, between, staysAt, Movable, mostFlow, mostBound};
 ghost use Rattle.numbers.specs.Arrays.{filled, everyIndex};
 ghost use Rattle.numbers.specs.Interval.{Within};
+ghost use Rattle.rules.specs.Quantities.{waterLimits};
 
 // The water of an element less what leaves it and with what enters.
 pub fn new_water(water: u64, leaves: i64, enters: i64) -> i64
-    requires { ⌜ water ≤ 1_000_000_000 ⌝ }
-    requires { ⌜ Within leaves 10_000_000_000_000_000 × Within enters 10_000_000_000_000_000 ⌝ }
+    requires { ⌜ water ≤ waterLimits .most ⌝ }
+    requires { ⌜ Within leaves mostFlow × Within enters mostFlow ⌝ }
     ensures { λ r. ⌜ r ≡ pos water -ℤ leaves +ℤ enters ⌝ }
 {
     water as i64 - leaves + enters
@@ -19,7 +20,7 @@ pub fn new_water(water: u64, leaves: i64, enters: i64) -> i64
 
 // Whether a height lies between two bounds.
 pub fn between(low: u64, high: u64, height: i64) -> bool
-    requires { ⌜ (low ≤ 1_000_000_000_000) × (high ≤ 1_000_000_000_000) ⌝ }
+    requires { ⌜ (low ≤ mostBound) × (high ≤ mostBound) ⌝ }
     ensures { λ r. ⌜ r ≡ between low high height ⌝ }
 {
     low as i64 <= height && height <= high as i64
@@ -36,7 +37,7 @@ pub fn stays_between<'a>(
 ) -> bool
     requires { ⌜ n ≤ 128 ⌝ }
     requires { ⌜ Movable n lowest (now above) (now water) ⌝ }
-    requires { ⌜ ((j : ℕ) → j < n → (getD (now low) j 0 ≤ 1_000_000_000_000) × (getD (now high) j 0 ≤ 1_000_000_000_000)) ⌝ }
+    requires { ⌜ ((j : ℕ) → j < n → (getD (now low) j 0 ≤ mostBound) × (getD (now high) j 0 ≤ mostBound)) ⌝ }
     ensures { λ r. ⌜ r ≡ everyIndex n (staysAt lowest (now (above .entry)) (now (water .entry)) (now (low .entry)) (now (high .entry))) ⌝ }
 {
     let mut enters = lowest;

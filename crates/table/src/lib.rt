@@ -9,6 +9,7 @@ ghost use Rattle.numbers.specs.Interval.{Within};
 ghost use Rattle.numbers.specs.Rounding.{cut};
 ghost use Rattle.rules.specs.Curve.{points};
 ghost use Rattle.rules.specs.Load.{tableSound, loadAt, nextTime};
+ghost use Rattle.rules.specs.Quantities.{stressLimits, clockLimits};
 use curves::checks;
 use curves::checks::Range;
 use curves::checks::Trend;
@@ -37,18 +38,18 @@ pub fn table_sound<'a>(n: usize, time: &'a [u64; 64], load: &'a [u64; 64]) -> bo
 
 // By how much a load changes to another.
 pub fn load_change(load0: u64, load1: u64) -> i64
-    requires { ⌜ (load0 ≤ 2_000_000_000) × (load1 ≤ 2_000_000_000) ⌝ }
-    ensures { λ r. ⌜ (r ≡ pos load1 -ℤ pos load0) × Within r 2_000_000_000 ⌝ }
+    requires { ⌜ (load0 ≤ stressLimits .most) × (load1 ≤ stressLimits .most) ⌝ }
+    ensures { λ r. ⌜ (r ≡ pos load1 -ℤ pos load0) × Within r (stressLimits .most) ⌝ }
 {
     load1 as i64 - load0 as i64
 }
 
 // The load at a time between two points, cut from the first: a stress within its limits.
 pub fn load_between(time0: u64, load0: u64, time1: u64, load1: u64, clock: u64) -> i64
-    requires { ⌜ (time0 ≤ clock) × ((clock < time1) × (time1 ≤ 3_000_000_000)) ⌝ }
-    requires { ⌜ (load0 ≤ 2_000_000_000) × (load1 ≤ 2_000_000_000) ⌝ }
+    requires { ⌜ (time0 ≤ clock) × ((clock < time1) × (time1 ≤ clockLimits .most)) ⌝ }
+    requires { ⌜ (load0 ≤ stressLimits .most) × (load1 ≤ stressLimits .most) ⌝ }
     ensures { λ r. ⌜ r ≡ pos load0 +ℤ cut ((pos load1 -ℤ pos load0) *ℤ pos (clock - time0)) (time1 - time0) ⌝ }
-    ensures { λ r. ⌜ (pos 0 ≤ℤ r) × (r ≤ℤ pos 2_000_000_000) ⌝ }
+    ensures { λ r. ⌜ (pos 0 ≤ℤ r) × (r ≤ℤ pos (stressLimits .most)) ⌝ }
 {
     let change = load_change(load0, load1);
     let passed = (clock - time0) as i64;
@@ -61,7 +62,7 @@ pub fn load_at<'a>(n: usize, time: &'a [u64; 64], load: &'a [u64; 64], clock: u6
     requires { ⌜ (1 ≤ n) × (n ≤ 64) ⌝ }
     requires { ⌜ tableSound (points n (now time) (now load)) ≡ true ⌝ }
     ensures { λ r. ⌜ r ≡ loadAt (points n (now (time .entry)) (now (load .entry))) clock ⌝ }
-    ensures { λ r. ⌜ (pos 0 ≤ℤ r) × (r ≤ℤ pos 2_000_000_000) ⌝ }
+    ensures { λ r. ⌜ (pos 0 ≤ℤ r) × (r ≤ℤ pos (stressLimits .most)) ⌝ }
 {
     let mut i: usize = 0;
     while i + 1 < n {
