@@ -1,14 +1,18 @@
 -- The flows of a layer by index: through an inner face, and through the top.
-use Prim.Native.Nat.{ℕ, zero, suc, _+_, _<_}
+use Prim.Native.Nat.{ℕ, zero, suc, _+_, _≤_, _<_}
 use native.Mathlib.Numerals.{add-one}
 use native.Mathlib.Omega.{arith}
+use lib.Dec.{ltb, ltb→lt, nltb→le, lit≤}
 use lib.IntN.{ℤ, pos, _-ℤ_, _*ℤ_}
 use lib.ListN.{length, getD}
 use mathlib.Core.List.{List, [], _∷_}
 use mathlib.Core.Path.{_≡_, refl}
-use Rattle.layer.specs.Elements.{elementOf, elementIn, elementsIn, flowAbove}
+use Rattle.layer.specs.Elements.{mostExcess, mostDifference, mostFlow, elementOf, elementIn, elementsIn, HeldWithin, flowAbove}
 use Rattle.numbers.specs.Filled.{length-tabulate, getD-tabulate}
+use Rattle.numbers.specs.Interval.{Within, within-mul, within-quot, within-sub, within-le, within-pos}
 use Rattle.numbers.specs.Rounding.{cut}
+use Rattle.numbers.specs.Searches.{by-test}
+use Rattle.rules.specs.Quantities.{stepLimits}
 use Rattle.rules.specs.Layer.{Element}
 use Rattle.rules.specs.Step.{innerResistance, outerResistance, upward, outward, flowsAbove}
 use Rattle.rules.specs.declared.quantities.Face.{Face}
@@ -19,6 +23,21 @@ pub outward-same : (face : Face) (t : ℕ) (e : Element) (c : ℕ) → outward f
 unfolding outward outerResistance
 outward-same Closed t e c = refl
 outward-same (Drained held) t e c = refl
+
+-- ---- ranges
+
+-- no flow passes the most
+pub flow-range : (d : ℤ) (t R : ℕ) → Within d mostDifference → t ≤ stepLimits .most → Within (cut (d *ℤ pos t) R) mostFlow
+flow-range d t R h short = within-quot (pos R) (within-mul h (within-le {n = 1_000_000} (within-pos t) short))
+
+pub outward-range : (face : Face) (t : ℕ) (e : Element) → HeldWithin face → Within e.excess mostExcess → t ≤ stepLimits .most →
+    Within (outward face t e) mostFlow
+unfolding HeldWithin outward
+outward-range Closed t e held h short = within-le (within-pos 0) (lit≤ tt)
+outward-range (Drained held) t e within h short =
+    flow-range (e.excess -ℤ held .0) t (outerResistance e) (within-le (within-sub h within) (lit≤ tt)) short
+
+-- ---- by index
 
 module _ (top : Face) (t : ℕ) where
   pub above-inner : (es : List Element) (j : ℕ) (d : Element) → suc j < length es →
@@ -60,3 +79,17 @@ module _ (top : Face) (t : ℕ) where
           above-top (elementsIn n excess resistance []) j (elementOf (pos 0) 0 0) (rw (length-tabulate n (elementIn excess resistance [])) (omega arith)),
           getD-tabulate n (elementIn excess resistance []) j (elementOf (pos 0) 0 0) (omega arith),
         )
+
+module _ (top : Face) (held : HeldWithin top) (t : ℕ) (short : t ≤ stepLimits .most) (n : ℕ) (excess : List ℤ) (resistance : List ℕ) where
+  -- every flow of the arrays is in range
+  pub above-range : ((j : ℕ) → j < n → Within (getD excess j (pos 0)) mostExcess) → (j : ℕ) → j < n →
+      Within (flowAbove top t n excess resistance j) mostFlow
+  above-range h j k =
+      by-test (ltb (j + 1) n) (λ _. Within (flowAbove top t n excess resistance j) mostFlow)
+      (λ s.
+      let inner = ltb→lt (j + 1) n s in
+      rw (flow-inner top t n excess resistance j inner)
+      (flow-range _ t _ (within-le (within-sub (h j k) (h (j + 1) inner)) (lit≤ tt)) short))
+      (λ s.
+      rw (flow-top top t n excess resistance j (omega (arith, nltb→le (j + 1) n s)))
+      (outward-range top t (elementIn excess resistance [] j) held (h j k) short))

@@ -39,6 +39,10 @@ mostFaceResistance = 11_000_000_000_000
 abbrev pub mostSensitivity : ℕ
 mostSensitivity = 100_000_000
 
+-- through a face in a step
+abbrev pub mostFlow : ℕ
+mostFlow = 10_000_000_000_000_000
+
 -- ---- elements
 
 abbrev pub elementOf : (excess : ℤ) (resistance sensitivity : ℕ) → Element

@@ -6,14 +6,8 @@ use lib.Signed.{leZ}
 use mathlib.Core.Bool.{Bool, _&&_}
 use mathlib.Core.List.{List, _∷_}
 use Rattle.numbers.specs.Interval.{Within}
+use Rattle.layer.specs.Elements.{mostFlow}
 use Rattle.rules.specs.Quantities.{waterLimits}
-
--- the most that flows through a face in a step, and the most that a bound of water can be
-abbrev pub mostFlow : ℕ
-mostFlow = 10_000_000_000_000_000
-
-abbrev pub mostBound : ℕ
-mostBound = 1_000_000_000_000
 
 -- the new water of element j: less what leaves by its upper face, and what enters by its lower, the lowest being the bottom
 abbrev pub newWater : (lowest : ℤ) (above : List ℤ) (water : List ℕ) → ℕ → ℤ

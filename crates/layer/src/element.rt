@@ -1,5 +1,5 @@
 // One element: what is read of it, and the flows through its faces.
-ghost use lib.IntN.{ℤ, pos, _+ℤ_, _-ℤ_, _*ℤ_};
+ghost use lib.IntN.{ℤ, pos, negℤ, _+ℤ_, _-ℤ_, _*ℤ_};
 ghost use mathlib.Core.Path.{_≡_};
 ghost use Prim.Native.Nat.{ℕ, _+_, _*_, _≤_, _<_};
 ghost use Rattle.layer.specs.Elements.{elementOf, HeldWithin, mostBurden, mostExcess, mostDifference, mostFaceResistance};
@@ -76,4 +76,15 @@ pub fn outward(face: Face, excess: i64, t: u64, resistance: u64) -> i64
         Face::Closed => 0,
         Face::Drained(held) => flow(excess - held.0, t, resistance),
     }
+}
+
+// Up through the bottom: less what goes out.
+pub fn bottom_flow(bottom: Face, excess: i64, t: u64, resistance: u64) -> i64
+    requires { ⌜ Within excess mostExcess ⌝ }
+    requires { ⌜ HeldWithin bottom ⌝ }
+    requires { ⌜ t ≤ stepLimits .most ⌝ }
+    requires { ⌜ (0 < resistance) × (resistance ≤ mostFaceResistance) ⌝ }
+    ensures { λ r. ⌜ r ≡ negℤ (outward bottom t (elementOf excess resistance 0)) ⌝ }
+{
+    0 - outward(bottom, excess, t, resistance)
 }

@@ -7,10 +7,27 @@ ghost use Prim.Native.Nat.{ℕ, _+_, _*_, _≤_, _<_, min, max};
 ghost use Rattle.layer.specs.Elements.{elementOf, mostFaceResistance, mostSensitivity};
 ghost use Rattle.layer.specs.Reach.{Limited, touching, longestWithin, isTooLong};
 ghost use Rattle.laws.specs.Shorten.{shortened};
+ghost use Rattle.numbers.specs.Arrays.{filled};
 ghost use Rattle.numbers.specs.Rounding.{floor};
+ghost use Rattle.rules.specs.Layer as layer;
 ghost use Rattle.rules.specs.Step.{outerContacts};
-ghost use Rattle.rules.specs.Quantities.{stressLimits, stepLimits};
+ghost use Rattle.rules.specs.Quantities.{solidsLimits, stressLimits, stepLimits};
+use crate::element;
 use rules::quantities::Face;
+
+// The sensitivity of every element.
+pub fn sensitivities<'a>(n: usize, solids: &'a [u64; 128], sensitivity: &mut [u64; 128])
+    requires { ⌜ n ≤ 128 ⌝ }
+    requires { ⌜ ((j : ℕ) → j < n → (0 < getD (now solids) j 0) × (getD (now solids) j 0 ≤ solidsLimits .most)) ⌝ }
+    requires { ⌜ length (now sensitivity) ≡ 128 ⌝ }
+    ensures { λ _. ⌜ now (sensitivity .exit) ≡ filled (now (sensitivity .entry)) n (λ j. layer.sensitivity (getD (now (solids .entry)) j 0)) ⌝ }
+{
+    let mut j: usize = 0;
+    while j < n {
+        sensitivity[j] = element::sensitivity(solids[j]);
+        j += 1;
+    }
+}
 
 // A step shortened to a quotient, divided only where the step is longer.
 pub fn shorten(t: u64, divisor: u64, resistance: u64) -> u64
