@@ -4,3 +4,4 @@ pub mod WaterAt
 pub mod WeightsAt
 pub mod ReadAt
 pub mod ReachAt
+pub mod StepAt

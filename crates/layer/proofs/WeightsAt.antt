@@ -14,7 +14,7 @@ use Rattle.numbers.specs.Sums.{sum}
 use Rattle.rules.specs.Layer.{buoyantWeight, burden, burdens}
 
 -- B at an index of a list
-burden-at : (g : ℕ) (Ss : List ℕ) (j d : ℕ) → j < length Ss → getD (burdens g Ss) j 0 ≡ burden g (getD Ss j d) (drop (suc j) Ss)
+pub burden-at : (g : ℕ) (Ss : List ℕ) (j d : ℕ) → j < length Ss → getD (burdens g Ss) j 0 ≡ burden g (getD Ss j d) (drop (suc j) Ss)
 unfolding burdens
 burden-at g [] j d h = absurd (omega arith)
 burden-at g (S ∷ above) zero d h = refl

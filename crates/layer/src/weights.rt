@@ -4,13 +4,13 @@ ghost use mathlib.Core.Path.{_≡_};
 ghost use Prim.Native.Nat.{ℕ, _+_, _≤_, _<_};
 ghost use Rattle.layer.specs.Weights.{weightFrom, burdenAt};
 ghost use Rattle.numbers.specs.Arrays.{filled};
-ghost use Rattle.rules.specs.Quantities.{solidsLimits};
+ghost use Rattle.rules.specs.Quantities.{solidsLimits, gravityLimits};
 use crate::element;
 
 // The weight of all elements.
 pub fn total_weight(n: usize, gravity: u64, solids: &[u64; 128]) -> u64
     requires { ⌜ n ≤ 128 ⌝ }
-    requires { ⌜ (1_000 ≤ gravity) × (gravity ≤ 5_000) ⌝ }
+    requires { ⌜ (gravityLimits .least ≤ gravity) × (gravity ≤ gravityLimits .most) ⌝ }
     requires { ⌜ ((j : ℕ) → j < n → getD (now solids) j 0 ≤ solidsLimits .most) ⌝ }
     ensures { λ r. ⌜ (r ≡ weightFrom gravity n (now (solids .entry)) 0) × (r ≤ 502_272_000) ⌝ }
 {
@@ -26,7 +26,7 @@ pub fn total_weight(n: usize, gravity: u64, solids: &[u64; 128]) -> u64
 // B of every element, in the first n places.
 pub fn burdens<'a>(n: usize, gravity: u64, solids: &'a [u64; 128], burden: &mut [u64; 128])
     requires { ⌜ n ≤ 128 ⌝ }
-    requires { ⌜ (1_000 ≤ gravity) × (gravity ≤ 5_000) ⌝ }
+    requires { ⌜ (gravityLimits .least ≤ gravity) × (gravity ≤ gravityLimits .most) ⌝ }
     requires { ⌜ ((j : ℕ) → j < n → getD (now solids) j 0 ≤ solidsLimits .most) ⌝ }
     requires { ⌜ length (now burden) ≡ 128 ⌝ }
     ensures { λ _. ⌜ now (burden .exit) ≡ filled (now (burden .entry)) n (burdenAt gravity n (now (solids .entry))) ⌝ }

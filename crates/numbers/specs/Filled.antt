@@ -39,6 +39,15 @@ module _ {A : Type 0} where
   tabulate-getD (suc n) [] d h = absurd (not-suc-le-zero h)
   tabulate-getD (suc n) (x ∷ xs) d h = ap (λ (r : List A). x ∷ r) (tabulate-getD n xs d (le-of-suc-le-suc h))
 
+  -- a list of n elements, each known by its index, is their table
+  pub tabulated : (n : ℕ) (f : ℕ → A) (xs : List A) (d : A) → length xs ≡ n → ((k : ℕ) → k < n → getD xs k d ≡ f k) → xs ≡ tabulate n f
+  unfolding tabulate
+  tabulated zero f [] d l h = refl
+  tabulated zero f (x ∷ xs) d l h = absurd (omega arith)
+  tabulated (suc n) f [] d l h = absurd (omega arith)
+  tabulated (suc n) f (x ∷ xs) d l h =
+      rw (h zero (omega arith), tabulated n (λ k. f (suc k)) xs d (omega arith) (λ k b. h (suc k) (omega arith)))
+
   -- from an index on: the element there and the rest, or nothing
   pub drop-tabulate : (n : ℕ) (f : ℕ → A) (i : ℕ) → i < n → drop i (tabulate n f) ≡ f i ∷ drop (i + 1) (tabulate n f)
   drop-tabulate n f i h =
