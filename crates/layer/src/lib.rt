@@ -2,6 +2,7 @@
 pub mod element;
 pub mod flows;
 pub mod longest;
+pub mod moving;
 pub mod read;
 pub mod water;
 pub mod weights;
