@@ -10,8 +10,8 @@ use Rattle.laws.specs.Bounds.{lowestWater, highestWater, on-curve-bounds}
 use Rattle.laws.specs.Rising.{lastAbscissa}
 use Rattle.laws.specs.Index.{element-at, moved-at}
 use Rattle.laws.specs.Lengths.{elements-length, above-length, moved-length}
-use Rattle.layer.specs.Elements.{elementOf, elementIn, elementsIn, flowAbove}
-use Rattle.layer.specs.Water.{newWater, staysAt}
+use Rattle.element.specs.Elements.{elementOf, elementIn, elementsIn, flowAbove}
+use Rattle.water.specs.Water.{newWater, staysAt}
 use Rattle.numbers.specs.Arrays.{tabulate, firstPlaces, everyIndex}
 use Rattle.numbers.specs.Filled.{length-tabulate, getD-tabulate, drop-tabulate, tabulated, tabulate-cong}
 use Rattle.numbers.specs.Lists.{all, paired}
@@ -22,7 +22,7 @@ use Rattle.rules.specs.Layer.{Site, State, Element, burdens, elements, excessPr
 use Rattle.rules.specs.Step.{Contact, contact, innerResistance, outerResistance, upward, outward, flowsAbove, upwardFlows, moved, outerContacts, contactsAbove, contacts, onCurve, allOnCurve}
 use Rattle.rules.specs.declared.quantities.Face.{Face}
 use Rattle.rules.specs.declared.quantities.Face.the-variants.{Closed, Drained}
-use Rattle.layer.proofs.FlowsAt.{outward-same}
+use Rattle.element.proofs.FlowsAt.{outward-same}
 use Rattle.layer.proofs.WeightsAt.{burden-at}
 
 -- ---- lists

@@ -6,7 +6,7 @@ use mathlib.Core.List.{List}
 use mathlib.Core.Path.{_≡_}
 use Rattle.numbers.specs.Interval.{Within}
 use lib.ListN.{getD}
-use Rattle.layer.specs.Elements.{mostBurden}
+use Rattle.element.specs.Elements.{mostBurden}
 use Rattle.rules.specs.Quantities.{stressLimits, solidsLimits}
 use Rattle.rules.specs.Curve.{Point, points, isOn, compressibilitySound, conductivitySound}
 use Rattle.rules.specs.Layer.{effectiveStress, excessPressure, resistance}

@@ -3,10 +3,9 @@ ghost use lib.IntN.{ℤ, pos};
 ghost use lib.ListN.{length};
 ghost use mathlib.Core.Path.{_≡_};
 ghost use Prim.Native.Nat.{ℕ, _+_, _≤_, _<_};
-ghost use Rattle.layer.specs.Elements.{Readable, HeldWithin, flowAbove};
+ghost use Rattle.element.specs.Elements.{Readable, HeldWithin, flowAbove};
 ghost use Rattle.numbers.specs.Arrays.{filled};
 ghost use Rattle.rules.specs.Quantities.{stepLimits};
-use crate::element;
 use rules::quantities::Face;
 
 // The flows of t seconds up through the upper face of each element, in the first n places.

@@ -3,11 +3,10 @@ ghost use lib.IntN.{ℤ, pos, negℤ};
 ghost use lib.ListN.{length, getD};
 ghost use mathlib.Core.Path.{_≡_};
 ghost use Prim.Native.Nat.{ℕ, _≤_, _<_};
-ghost use Rattle.layer.specs.Elements.{elementOf, HeldWithin, Readable, flowAbove};
+ghost use Rattle.element.specs.Elements.{elementOf, HeldWithin, Readable, flowAbove};
 ghost use Rattle.numbers.specs.Arrays.{filled};
 ghost use Rattle.rules.specs.Quantities.{stepLimits};
 ghost use Rattle.rules.specs.Step.{outward};
-use crate::element;
 use crate::flows;
 use rules::quantities::Face;
 

@@ -7,7 +7,6 @@ ghost use Rattle.layer.specs.Soil.{Soil, OnSoil, excessAt, resistanceAt}
 ghost use Rattle.numbers.specs.Arrays.{filled};
 ghost use Rattle.rules.specs.Curve.{points};
 ghost use Rattle.rules.specs.Layer.{excessPressure, resistance};
-use crate::element;
 use curves::reading;
 
 // An element as read, with the segments of both curves where it was found.

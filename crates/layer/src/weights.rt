@@ -5,7 +5,6 @@ ghost use Prim.Native.Nat.{ℕ, _+_, _≤_, _<_};
 ghost use Rattle.layer.specs.Weights.{weightFrom, burdenAt};
 ghost use Rattle.numbers.specs.Arrays.{filled};
 ghost use Rattle.rules.specs.Quantities.{solidsLimits, gravityLimits};
-use crate::element;
 
 // The weight of all elements.
 pub fn total_weight(n: usize, gravity: u64, solids: &[u64; 128]) -> u64

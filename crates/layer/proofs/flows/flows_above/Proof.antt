@@ -7,8 +7,8 @@ use lib.ListN.{getD, set}
 use mathlib.Core.Path.{_≡_, sym, _∙_}
 use mir.Syntax.{w64}
 use mir.Val.{SFits, ofZ, toZ}
-use Rattle.layer.specs.Elements.{Readable, flowAbove}
-use Rattle.layer.proofs.FlowsAt.{outward-same, flow-inner, flow-top}
+use Rattle.element.specs.Elements.{Readable, flowAbove}
+use Rattle.element.proofs.FlowsAt.{outward-same, flow-inner, flow-top}
 use Rattle.numbers.specs.Arrays.{filled}
 use Rattle.numbers.specs.Filled.{filled-zero, filled-store}
 use Rattle.numbers.specs.Interval.{Within, within-sub, within-le, within-fits}

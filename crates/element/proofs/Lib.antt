@@ -1,0 +1,2 @@
+-- Laws of the flows by index.
+pub mod FlowsAt

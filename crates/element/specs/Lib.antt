@@ -1,0 +1,2 @@
+-- What the contracts of an element cite beside the rules.
+pub mod Elements

@@ -1,0 +1,90 @@
+// One element: what is read of it, and the flows through its faces.
+ghost use lib.IntN.{ℤ, pos, negℤ, _+ℤ_, _-ℤ_, _*ℤ_};
+ghost use mathlib.Core.Path.{_≡_};
+ghost use Prim.Native.Nat.{ℕ, _+_, _*_, _≤_, _<_};
+ghost use Rattle.element.specs.Elements.{elementOf, HeldWithin, mostBurden, mostExcess, mostDifference, mostFaceResistance};
+ghost use Rattle.numbers.specs.Interval.{Within};
+ghost use Rattle.numbers.specs.Rounding.{ceil, cut};
+ghost use Rattle.rules.specs.Layer.{height, voidRatio, buoyantWeight, sensitivity};
+ghost use Rattle.rules.specs.Step.{outward};
+ghost use Rattle.rules.specs.Quantities.{stressLimits, conductivityLimits, solidsLimits, waterLimits, stepLimits, gravityLimits};
+use rules::quantities::Face;
+use rules::quantities::Pressure;
+
+// E, from solids and water within their limits.
+pub fn void_ratio(solids: u64, water: u64) -> u64
+    requires { ⌜ (0 < solids) × (water ≤ waterLimits .most) ⌝ }
+    ensures { λ r. ⌜ r ≡ voidRatio solids water ⌝ }
+{
+    numbers::floor(water * 100_000_000, solids)
+}
+
+// b, with specific gravity in thousandths.
+pub fn buoyant_weight(gravity: u64, solids: u64) -> u64
+    requires { ⌜ (gravityLimits .least ≤ gravity) × (gravity ≤ gravityLimits .most) ⌝ }
+    requires { ⌜ solids ≤ solidsLimits .most ⌝ }
+    ensures { λ r. ⌜ (r ≡ buoyantWeight gravity solids) × (r ≤ 3_924_000) ⌝ }
+{
+    numbers::floor(solids * (gravity - 1_000) * 9_810, 1_000_000_000)
+}
+
+// r, from an element's height and conductivity.
+pub fn resistance(solids: u64, water: u64, conductivity: u64) -> u64
+    requires { ⌜ (solids ≤ solidsLimits .most) × (water ≤ waterLimits .most) ⌝ }
+    requires { ⌜ (0 < conductivity) × (conductivity ≤ conductivityLimits .most) ⌝ }
+    ensures { λ r. ⌜ r ≡ ceil (4_905 * height solids water) conductivity ⌝ }
+{
+    numbers::ceil(4_905 * (solids + water), conductivity)
+}
+
+// c, the most by which a nanometre of water moves the void ratio.
+pub fn sensitivity(solids: u64) -> u64
+    requires { ⌜ (0 < solids) × (solids ≤ solidsLimits .most) ⌝ }
+    ensures { λ r. ⌜ r ≡ sensitivity solids ⌝ }
+{
+    numbers::ceil(100_000_000, solids)
+}
+
+// p, from the load, the burden and the effective stress.
+pub fn excess_pressure(load: i64, burden: u64, stress: u64) -> i64
+    requires { ⌜ Within load (stressLimits .most) ⌝ }
+    requires { ⌜ (burden ≤ mostBurden) × (stress ≤ stressLimits .most) ⌝ }
+    ensures { λ r. ⌜ r ≡ load +ℤ pos burden -ℤ pos stress ⌝ }
+{
+    load + burden as i64 - stress as i64
+}
+
+// The flow of t seconds over a pressure difference through a resistance, cut toward zero.
+pub fn flow(difference: i64, t: u64, resistance: u64) -> i64
+    requires { ⌜ Within difference mostDifference ⌝ }
+    requires { ⌜ t ≤ stepLimits .most ⌝ }
+    requires { ⌜ (0 < resistance) × (resistance ≤ mostFaceResistance) ⌝ }
+    ensures { λ r. ⌜ r ≡ cut (difference *ℤ pos t) resistance ⌝ }
+{
+    numbers::cut(difference * t as i64, resistance as i64)
+}
+
+// Out through an outer face: nothing if it is closed.
+pub fn outward(face: Face, excess: i64, t: u64, resistance: u64) -> i64
+    requires { ⌜ Within excess mostExcess ⌝ }
+    requires { ⌜ HeldWithin face ⌝ }
+    requires { ⌜ t ≤ stepLimits .most ⌝ }
+    requires { ⌜ (0 < resistance) × (resistance ≤ mostFaceResistance) ⌝ }
+    ensures { λ r. ⌜ r ≡ outward face t (elementOf excess resistance 0) ⌝ }
+{
+    match face {
+        Face::Closed => 0,
+        Face::Drained(held) => flow(excess - held.0, t, resistance),
+    }
+}
+
+// Up through the bottom: less what goes out.
+pub fn bottom_flow(bottom: Face, excess: i64, t: u64, resistance: u64) -> i64
+    requires { ⌜ Within excess mostExcess ⌝ }
+    requires { ⌜ HeldWithin bottom ⌝ }
+    requires { ⌜ t ≤ stepLimits .most ⌝ }
+    requires { ⌜ (0 < resistance) × (resistance ≤ mostFaceResistance) ⌝ }
+    ensures { λ r. ⌜ r ≡ negℤ (outward bottom t (elementOf excess resistance 0)) ⌝ }
+{
+    0 - outward(bottom, excess, t, resistance)
+}

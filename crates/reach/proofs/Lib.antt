@@ -1,0 +1,2 @@
+-- Laws of the longest step by index.
+pub mod ReachAt

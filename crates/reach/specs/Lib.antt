@@ -1,0 +1,2 @@
+-- What the contracts of the longest step cite beside the rules.
+pub mod Reach

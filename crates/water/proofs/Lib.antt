@@ -1,0 +1,2 @@
+-- Laws of the new water by index.
+pub mod WaterAt

@@ -1,0 +1,28 @@
+-- The new water of a step, element by element, as arrays hold it.
+use Prim.Native.Nat.{ℕ, _≤_, _<_}
+use lib.IntN.{ℤ, pos, _+ℤ_, _-ℤ_}
+use lib.ListN.{getD}
+use lib.Signed.{leZ}
+use mathlib.Core.Bool.{Bool, _&&_}
+use mathlib.Core.List.{List, _∷_}
+use Rattle.numbers.specs.Interval.{Within}
+use Rattle.element.specs.Elements.{mostFlow}
+use Rattle.rules.specs.Quantities.{waterLimits}
+
+-- the new water of element j: less what leaves by its upper face, and what enters by its lower, the lowest being the bottom
+abbrev pub newWater : (lowest : ℤ) (above : List ℤ) (water : List ℕ) → ℕ → ℤ
+newWater lowest above water j = pos (getD water j 0) -ℤ getD above j (pos 0) +ℤ getD (lowest ∷ above) j (pos 0)
+
+-- a height lies between two bounds
+abbrev pub between : (low high : ℕ) → ℤ → Bool
+between low high W = leZ (pos low) W && leZ W (pos high)
+
+-- the new water of element j lies between its bounds
+abbrev pub staysAt : (lowest : ℤ) (above : List ℤ) (water low high : List ℕ) → ℕ → Bool
+staysAt lowest above water low high j = between (getD low j 0) (getD high j 0) (newWater lowest above water j)
+
+-- what moving water needs: no height and no flow is out of range
+pub record Movable (n : ℕ) (lowest : ℤ) (above : List ℤ) (water : List ℕ) : Type 0 where
+  pub lowest-within : Within lowest mostFlow
+  pub above-within : (j : ℕ) → j < n → Within (getD above j (pos 0)) mostFlow
+  pub water-most : (j : ℕ) → j < n → getD water j 0 ≤ waterLimits .most
