@@ -1,4 +1,4 @@
-// Elements and the layer. An element function takes numbers, a layer function borrowed arrays.
+// The layer. Its functions take borrowed arrays.
 pub mod flows;
 pub mod moving;
 pub mod read;
