@@ -7,7 +7,10 @@ use lib.IntN.{ℤ, pos, _-ℤ_, _*ℤ_}
 use lib.ListN.{length, getD}
 use mathlib.Core.List.{List, [], _∷_}
 use mathlib.Core.Path.{_≡_, refl}
-use Rattle.element.specs.Elements.{mostExcess, mostDifference, mostFlow, elementOf, elementIn, elementsIn, HeldWithin, flowAbove}
+use Rattle.element.specs.Elements.{mostExcess, mostDifference, mostFlow, elementOf, elementIn, elementsIn, flowAbove}
+use Rattle.laws.specs.Index.{flow-at}
+use Rattle.laws.specs.Outflow.{HeldWithin}
+use Rattle.laws.specs.Spread.{Holds}
 use Rattle.numbers.specs.Filled.{length-tabulate, getD-tabulate}
 use Rattle.numbers.specs.Interval.{Within, within-mul, within-quot, within-sub, within-le, within-pos}
 use Rattle.numbers.specs.Rounding.{cut}
@@ -32,7 +35,7 @@ flow-range d t R h short = within-quot (pos R) (within-mul h (within-le {n = 1_0
 
 pub outward-range : (face : Face) (t : ℕ) (e : Element) → HeldWithin face → Within e.excess mostExcess → t ≤ stepLimits .most →
     Within (outward face t e) mostFlow
-unfolding HeldWithin outward
+unfolding Holds outward
 outward-range Closed t e held h short = within-le (within-pos 0) (lit≤ tt)
 outward-range (Drained held) t e within h short =
     flow-range (e.excess -ℤ held .0) t (outerResistance e) (within-le (within-sub h within) (lit≤ tt)) short
@@ -40,15 +43,8 @@ outward-range (Drained held) t e within h short =
 -- ---- by index
 
 module _ (top : Face) (t : ℕ) where
-  pub above-inner : (es : List Element) (j : ℕ) (d : Element) → suc j < length es →
-      getD (flowsAbove top t es) j (pos 0) ≡ upward t (getD es j d) (getD es (suc j) d)
-  unfolding flowsAbove
-  above-inner [] j d h = absurd (omega arith)
-  above-inner (e ∷ []) j d h = absurd (omega arith)
-  above-inner (e ∷ f ∷ rest) zero d h = refl
-  above-inner (e ∷ f ∷ rest) (suc j) d h = above-inner (f ∷ rest) j d (omega arith)
-
-  pub above-top : (es : List Element) (j : ℕ) (d : Element) → suc j ≡ length es →
+  -- through the top, by the last index
+  above-top : (es : List Element) (j : ℕ) (d : Element) → suc j ≡ length es →
       getD (flowsAbove top t es) j (pos 0) ≡ outward top t (getD es j d)
   unfolding flowsAbove
   above-top [] j d h = absurd (omega arith)
@@ -64,7 +60,7 @@ module _ (top : Face) (t : ℕ) where
     unfolding flowAbove elementsIn upward innerResistance
     flow-inner h =
         rw (
-          above-inner (elementsIn n excess resistance []) j (elementOf (pos 0) 0 0) (rw (length-tabulate n (elementIn excess resistance [])) (omega arith)),
+          flow-at top t (elementsIn n excess resistance []) j (pos 0) (elementOf (pos 0) 0 0) (rw (length-tabulate n (elementIn excess resistance [])) (omega arith)),
           getD-tabulate n (elementIn excess resistance []) j (elementOf (pos 0) 0 0) (omega arith),
           ← add-one j,
           getD-tabulate n (elementIn excess resistance []) (j + 1) (elementOf (pos 0) 0 0) h,

@@ -8,7 +8,6 @@ use Rattle.numbers.specs.Interval.{Within}
 use Rattle.rules.specs.Layer.{Element}
 use Rattle.rules.specs.Step.{flowsAbove}
 use Rattle.rules.specs.declared.quantities.Face.{Face}
-use Rattle.rules.specs.declared.quantities.Face.the-variants.{Closed, Drained}
 
 -- ---- the most that these can be, from the limits of a job
 
@@ -18,11 +17,7 @@ mostBurden = 510_000_000
 
 -- p, above and below zero
 abbrev pub mostExcess : ℕ
-mostExcess = 4_520_000_000
-
--- what a drained face holds: the pressure of the greatest head
-abbrev pub mostHeld : ℕ
-mostHeld = 1_962_000_000
+mostExcess = 2_520_000_000
 
 -- between two elements, or an element and a drained face
 abbrev pub mostDifference : ℕ
@@ -55,11 +50,6 @@ elementIn excess resistance sensitivity j = elementOf (getD excess j (pos 0)) (g
 unfoldable pub elementsIn : ℕ → (excess : List ℤ) (resistance sensitivity : List ℕ) → List Element
 unfolding tabulate
 elementsIn n excess resistance sensitivity = tabulate n (elementIn excess resistance sensitivity)
-
--- a drained face holds at most the pressure of the greatest head
-unfoldable pub HeldWithin : Face → Type 0
-HeldWithin Closed = Unit {0}
-HeldWithin (Drained held) = Within (held .0) mostHeld
 
 -- what a step needs of the arrays: no pressure and no resistance is out of range
 pub record Readable (n : ℕ) (excess : List ℤ) (resistance : List ℕ) : Type 0 where

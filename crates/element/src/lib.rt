@@ -2,7 +2,8 @@
 ghost use lib.IntN.{ℤ, pos, negℤ, _+ℤ_, _-ℤ_, _*ℤ_};
 ghost use mathlib.Core.Path.{_≡_};
 ghost use Prim.Native.Nat.{ℕ, _+_, _*_, _≤_, _<_};
-ghost use Rattle.element.specs.Elements.{elementOf, HeldWithin, mostBurden, mostExcess, mostDifference, mostFaceResistance};
+ghost use Rattle.element.specs.Elements.{elementOf, mostBurden, mostExcess, mostDifference, mostResistance, mostFaceResistance};
+ghost use Rattle.laws.specs.Outflow.{HeldWithin};
 ghost use Rattle.numbers.specs.Interval.{Within};
 ghost use Rattle.numbers.specs.Rounding.{ceil, cut};
 ghost use Rattle.rules.specs.Layer.{height, voidRatio, buoyantWeight, sensitivity};
@@ -69,7 +70,7 @@ pub fn outward(face: Face, excess: i64, t: u64, resistance: u64) -> i64
     requires { ⌜ Within excess mostExcess ⌝ }
     requires { ⌜ HeldWithin face ⌝ }
     requires { ⌜ t ≤ stepLimits .most ⌝ }
-    requires { ⌜ (0 < resistance) × (resistance ≤ mostFaceResistance) ⌝ }
+    requires { ⌜ (0 < resistance) × (resistance ≤ mostResistance) ⌝ }
     ensures { λ r. ⌜ r ≡ outward face t (elementOf excess resistance 0) ⌝ }
 {
     match face {
@@ -83,7 +84,7 @@ pub fn bottom_flow(bottom: Face, excess: i64, t: u64, resistance: u64) -> i64
     requires { ⌜ Within excess mostExcess ⌝ }
     requires { ⌜ HeldWithin bottom ⌝ }
     requires { ⌜ t ≤ stepLimits .most ⌝ }
-    requires { ⌜ (0 < resistance) × (resistance ≤ mostFaceResistance) ⌝ }
+    requires { ⌜ (0 < resistance) × (resistance ≤ mostResistance) ⌝ }
     ensures { λ r. ⌜ r ≡ negℤ (outward bottom t (elementOf excess resistance 0)) ⌝ }
 {
     0 - outward(bottom, excess, t, resistance)

@@ -3,7 +3,7 @@ use borrow.Author.Needs.{needs}
 use lib.IntN.{ℤ, _-ℤ_}
 use mir.Syntax.{w64}
 use mir.Val.{SFits}
-use Rattle.element.specs.Elements.{HeldWithin}
+use Rattle.laws.specs.Spread.{Holds}
 use Rattle.numbers.specs.Interval.{Within, within-sub, within-le, within-fits}
 use Rattle.numbers.specs.Signed.{readBack}
 use Rattle.rules.specs.Step.{outward}
@@ -18,7 +18,7 @@ module _ (c : tie.After-face) where
   held = c .face .given .0 .0 .0
 
   held-within : Within held 1_962_000_000
-  unfolding HeldWithin
+  unfolding Holds
   held-within = rw (c .face .given .1) at (s .pre .1 .0)
 
   held-fits : SFits w64 held
@@ -42,8 +42,8 @@ sub-flow c = let f = c .before .before .before in simp (readBack (s f .fits .exc
 flow-requires : tie.Need-flow-requires
 flow-requires c κs =
     let f = c .before .before .before in
-    let p = s f .pre .1 .1 in
-    simp (readBack (s f .fits .excess), readBack (held-fits f), readBack (difference-fits f)) (difference f, p)
+    simp (readBack (s f .fits .excess), readBack (held-fits f), readBack (difference-fits f))
+    (difference f, (s f .pre .1 .1 .0, (omega arith, omega arith)))
 
 returns : tie.Need-returns
 unfolding outward
