@@ -32,7 +32,7 @@ last-tabulate zero f = refl
 last-tabulate (suc m) f = last-tabulate m (λ k. f (suc k))
 
 -- the first and the last void ratio of a curve's arrays
-ends : (n : ℕ) (xs ys : List ℕ) → 0 < n →
+pub ends : (n : ℕ) (xs ys : List ℕ) → 0 < n →
     (firstAbscissa (points n xs ys) ≡ getD xs 0 0) × (lastAbscissa (points n xs ys) ≡ getD xs (n - 1) 0)
 unfolding points tabulate
 ends zero xs ys h = absurd (omega arith)

@@ -1,7 +1,7 @@
 // G: the largest ceil(stress rise / void fall) of the compressibility curve's segments.
 ghost use mathlib.Core.Bool.{true};
 ghost use mathlib.Core.Path.{_≡_};
-ghost use Prim.Native.Nat.{ℕ, _+_, _-_, _≤_, _<_};
+ghost use Prim.Native.Nat.{_+_, _-_, _≤_, _<_};
 ghost use Rattle.numbers.specs.Rounding.{ceil};
 ghost use Rattle.rules.specs.Curve.{points, compressibilitySound, steepness};
 ghost use Rattle.rules.specs.Quantities.{stressLimits, voidLimits};

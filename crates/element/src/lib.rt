@@ -1,7 +1,7 @@
 // One element: what is read of it, and the flows through its faces.
 ghost use lib.IntN.{ℤ, pos, negℤ, _+ℤ_, _-ℤ_, _*ℤ_};
 ghost use mathlib.Core.Path.{_≡_};
-ghost use Prim.Native.Nat.{ℕ, _+_, _*_, _≤_, _<_};
+ghost use Prim.Native.Nat.{_+_, _*_, _≤_, _<_};
 ghost use Rattle.element.specs.Elements.{elementOf, mostBurden, mostExcess, mostDifference, mostResistance, mostFaceResistance};
 ghost use Rattle.laws.specs.Outflow.{HeldWithin};
 ghost use Rattle.numbers.specs.Interval.{Within};

@@ -1,6 +1,6 @@
 -- An element is on a falling curve just where its water lies between two heights.
 use Prim.Native.Nat.{ℕ, _+_, _-_, _*_, _≤_, _<_}
-use native.Mathlib.Nat.{div-lt-iff-lt-mul}
+use native.Mathlib.Nat.{div-lt-iff-lt-mul, mul-le-mul, mul-pos}
 use native.Mathlib.Omega.{arith}
 use lib.Dec.{T, leb, leb→le, le→leb, lit<}
 use lib.IntN.{ℤ, pos, negsuc}
@@ -27,6 +27,18 @@ lowestWater S v = ceil (v * S) 100_000_000
 -- the most water with which it does not pass u
 unfoldable pub highestWater : (S u : ℕ) → ℕ
 highestWater S u = floor ((u + 1) * S - 1) 100_000_000
+
+-- both are within the limits of water
+pub lowest-most : (S v : ℕ) → S ≤ 100_000_000 → v ≤ 1_000_000_000 → lowestWater S v ≤ 1_000_000_000
+unfolding lowestWater
+lowest-most S v h k = ceil-le {b = 100_000_000} (lit< tt) (v * S) 1_000_000_000 .1 (mul-le-mul k h)
+
+pub highest-most : (S u : ℕ) → 0 < S → S ≤ 100_000_000 → u ≤ 1_000_000_000 → highestWater S u ≤ 1_000_000_000
+unfolding highestWater
+highest-most S u p h k =
+    let product : (u + 1) * S ≤ 100_000_000_100_000_000 = mul-le-mul {n₁ = u + 1} {m₁ = S} {n₂ = 1_000_000_001} {m₂ = 100_000_000} (omega arith) h in
+    let below : (floor ((u + 1) * S - 1) 100_000_000 < 1_000_000_001) ↔ ((u + 1) * S - 1 < 1_000_000_001 * 100_000_000) = div-lt-iff-lt-mul (lit< tt) in
+    omega (arith, below .1 (omega (arith, mul-pos {m = u + 1} {n = S} (omega arith) p)))
 
 module _ (S : ℕ) (solid : 0 < S) (W : ℕ) where
   -- the void ratio reaches v just where the water reaches the lowest

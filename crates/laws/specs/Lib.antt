@@ -6,6 +6,7 @@ pub mod Segment
 pub mod Rising
 pub mod Ranges
 pub mod Slope
+pub mod Steep
 pub mod VoidRatio
 pub mod Bounds
 -- the maximum principle

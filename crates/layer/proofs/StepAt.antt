@@ -27,7 +27,7 @@ use Rattle.layer.proofs.WeightsAt.{burden-at}
 
 -- ---- lists
 
-map-tabulate : {A B : Type 0} (h : A → B) (n : ℕ) (f : ℕ → A) → map h (tabulate n f) ≡ tabulate n (λ k. h (f k))
+pub map-tabulate : {A B : Type 0} (h : A → B) (n : ℕ) (f : ℕ → A) → map h (tabulate n f) ≡ tabulate n (λ k. h (f k))
 unfolding tabulate
 map-tabulate h zero f = refl
 map-tabulate h (suc n) f = ap (λ l. h (f zero) ∷ l) (map-tabulate h n (λ k. f (suc k)))

@@ -1,10 +1,10 @@
 -- What reading an element needs: two sound curves, and an element on the first.
 use Prim.Native.Nat.{ℕ, _≤_, _<_}
-use lib.IntN.{ℤ}
+use lib.IntN.{ℤ, pos}
 use mathlib.Core.Bool.{true}
 use mathlib.Core.List.{List}
 use mathlib.Core.Path.{_≡_}
-use Rattle.numbers.specs.Interval.{Within}
+use Rattle.laws.specs.Amid.{Between}
 use lib.ListN.{getD}
 use Rattle.element.specs.Elements.{mostBurden}
 use Rattle.rules.specs.Quantities.{stressLimits, solidsLimits}
@@ -22,7 +22,7 @@ pub record Soil (m : ℕ) (void stress : List ℕ) (n : ℕ) (conductivityVoid c
 
 -- an element on the curve, with its load and burden in range
 pub record OnSoil (m : ℕ) (void stress : List ℕ) (load : ℤ) (burden solids water : ℕ) : Type 0 where
-  pub load-within : Within load (stressLimits .most)
+  pub load-between : Between (pos 0) (pos (stressLimits .most)) load
   pub burden-most : burden ≤ mostBurden
   pub solids-positive : 0 < solids
   pub solids-most : solids ≤ solidsLimits .most

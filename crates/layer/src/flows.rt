@@ -1,8 +1,7 @@
 // The flows of a layer.
-ghost use lib.IntN.{ℤ, pos};
 ghost use lib.ListN.{length};
 ghost use mathlib.Core.Path.{_≡_};
-ghost use Prim.Native.Nat.{ℕ, _+_, _≤_, _<_};
+ghost use Prim.Native.Nat.{_+_, _≤_, _<_};
 ghost use Rattle.element.specs.Elements.{Readable, flowAbove};
 ghost use Rattle.laws.specs.Outflow.{HeldWithin};
 ghost use Rattle.numbers.specs.Arrays.{filled};

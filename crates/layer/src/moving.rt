@@ -1,8 +1,8 @@
 // The flows of a step, and the water that they move.
-ghost use lib.IntN.{ℤ, pos, negℤ};
+ghost use lib.IntN.{pos, negℤ};
 ghost use lib.ListN.{length, getD};
 ghost use mathlib.Core.Path.{_≡_};
-ghost use Prim.Native.Nat.{ℕ, _≤_, _<_};
+ghost use Prim.Native.Nat.{_≤_, _<_};
 ghost use Rattle.element.specs.Elements.{elementOf, Readable, flowAbove};
 ghost use Rattle.laws.specs.Outflow.{HeldWithin};
 ghost use Rattle.numbers.specs.Arrays.{filled};

@@ -1,11 +1,11 @@
 // The longest step that is too long for no element and face of it.
-ghost use lib.IntN.{ℤ, pos};
+ghost use lib.IntN.{pos};
 ghost use lib.ListN.{length, getD};
-ghost use mathlib.Core.Bool.{Bool, not};
+ghost use mathlib.Core.Bool.{not};
 ghost use mathlib.Core.Path.{_≡_};
 ghost use Prim.Native.Nat.{ℕ, _+_, _*_, _≤_, _<_, min, max};
 ghost use Rattle.element.specs.Elements.{elementOf, mostFaceResistance, mostSensitivity};
-ghost use Rattle.reach.specs.Reach.{Limited, touching, longestWithin, isTooLong};
+ghost use Rattle.reach.specs.Reach.{Limited, longestWithin, isTooLong};
 ghost use Rattle.laws.specs.Shorten.{shortened};
 ghost use Rattle.numbers.specs.Arrays.{filled};
 ghost use Rattle.numbers.specs.Rounding.{floor};

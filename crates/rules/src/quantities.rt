@@ -1,8 +1,6 @@
-ghost use lib.IntN.{ℤ, pos};
 ghost use mathlib.Core.Path.{_≡_};
-ghost use Prim.Native.Nat.{ℕ};
 ghost use Rattle.numbers.specs.Interval.{Within};
-ghost use Rattle.rules.specs.Quantities.{within, withinℤ, stressLimits, voidLimits, conductivityLimits, levelLimits, clockLimits, solidsLimits, waterLimits, stepLimits, budgetLimits, gravityLimits, startingWaterLimits, pressureOf, from_to_};
+ghost use Rattle.rules.specs.Quantities.{within, withinℤ, stressLimits, voidLimits, conductivityLimits, levelLimits, clockLimits, solidsLimits, waterLimits, stepLimits, budgetLimits, gravityLimits, pressureOf, from_to_};
 ghost use Rattle.rules.specs.Tested.{testedHead, testedPressure, testedVoid, testedClock};
 
 // Whether a number keeps limits.

@@ -2,7 +2,9 @@ use Prim.Native.Nat.{ℕ, _+_, _*_, _≤_}
 use lib.IntN.{pos, _+ℤ_, _-ℤ_}
 use mathlib.Core.Path.{_≡_, ap, _∙_}
 use Rattle.numbers.specs.Rounding.{ceil}
-use Rattle.numbers.specs.Signed.{readBack}
+use Rattle.numbers.specs.Interval.{Within, intervals}
+use Rattle.numbers.specs.Signed.{readBack, one-sided}
+use Rattle.rules.specs.Quantities.{stressLimits}
 use Rattle.rules.specs.Curve.{points, curveAt, valueOf}
 use Rattle.rules.specs.Layer.{effectiveStress, hydraulicConductivity, excessPressure, resistance}
 use Rattle.curves.proofs.SmoothCurves.{compressibility-smooth, conductivity-smooth}
@@ -21,6 +23,9 @@ module _ (c : tie.Start) where
 
   most : c .args .water ≤ 1_000_000_000
   most = water-most _ _ _ _ _ _ soil _ _ _ _ on
+
+  load-within : Within (c .args .load) (stressLimits .most)
+  load-within = let b = on .load-between in omega (intervals, one-sided (c .args .load))
 
 void-ratio-requires : tie.Need-void-ratio-requires
 void-ratio-requires c κs = (c .pre .1 .solids-positive, most c)
@@ -45,7 +50,7 @@ stress-is c =
 excess-pressure-requires : tie.Need-excess-pressure-requires
 excess-pressure-requires c κs =
     let s = c .before .before .before .before in
-    simp (readBack (s .fits .load)) (on s .load-within, (on s .burden-most, rw (stress-is c) (stress-most _ _ _ _ _ _ (soil s) _ _ _ _ (on s))))
+    simp (readBack (s .fits .load)) (load-within s, (on s .burden-most, rw (stress-is c) (stress-most _ _ _ _ _ _ (soil s) _ _ _ _ (on s))))
 
 value-of-requires-2 : tie.Need-value-of-requires-2
 value-of-requires-2 c κs = search needs

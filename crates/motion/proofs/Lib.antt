@@ -1,0 +1,3 @@
+-- Laws of a moving layer as arrays hold it.
+pub mod MovingAt
+pub mod TurningAt

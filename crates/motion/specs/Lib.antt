@@ -1,0 +1,3 @@
+-- What the contracts of a moving layer cite beside the rules.
+pub mod Moving
+pub mod Turning
