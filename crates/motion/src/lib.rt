@@ -1,20 +1,28 @@
 // A step that reads the layer, and moves its water.
 ghost use lib.ListN.{length, getD};
+ghost use mathlib.Core.Bool.{true};
 ghost use mathlib.Core.List.{List};
 ghost use mathlib.Core.Path.{_≡_};
 ghost use Prim.Native.Nat.{ℕ, _≤_, _<_};
 ghost use Rattle.element.specs.Elements.{Readable, flowAbove};
+ghost use Rattle.laws.specs.Bounds.{lowestWater, highestWater};
 ghost use Rattle.laws.specs.Outflow.{HeldWithin};
+ghost use Rattle.laws.specs.Rising.{lastAbscissa};
 ghost use Rattle.layer.specs.Soil.{Soil, OnSoil, excessAt, resistanceAt};
+ghost use Rattle.layer.specs.Weights.{burdenAt};
 ghost use Rattle.motion.specs.Moving.{flowsIn, movedBy, waterAfter, staysOn, Bounded};
 ghost use Rattle.motion.specs.Turning.{longestUpTo, turnedBy, waterTurned, flowsTurned, Worked, Shows};
 ghost use Rattle.numbers.specs.Arrays.{filled};
-ghost use Rattle.rules.specs.Curve.{Point, points};
+ghost use Rattle.rules.proofs.Falling.{firstAbscissa};
+ghost use Rattle.rules.specs.Curve.{Point, points, compressibilitySound, steepness};
+ghost use Rattle.rules.specs.Layer as layer;
 ghost use Rattle.rules.specs.Layer.{Site, State};
 ghost use Rattle.rules.specs.Run as run;
-ghost use Rattle.rules.specs.Quantities.{stepLimits, waterLimits};
+ghost use Rattle.rules.specs.Quantities.{stepLimits, waterLimits, gravityLimits, solidsLimits};
+use curves::steep;
 use layer::moving;
 use layer::read;
+use layer::weights;
 use rules::answers::Stop;
 use rules::quantities::Face;
 
@@ -54,6 +62,36 @@ pub fn advance<'a>(
     water::move_water(n, lowest, above, water);
     let last = n - 1;
     Moved::Flows(lowest, above[last])
+}
+
+// What is worked out once for a site: burdens, sensitivities and bounds of water in the first n places, and the slope.
+pub fn prepare<'a>(
+    n: usize,
+    gravity: u64,
+    solids: &'a [u64; 128],
+    m: usize,
+    void: &'a [u64; 64],
+    stress: &'a [u64; 64],
+    burden: &mut [u64; 128],
+    sensitivity: &mut [u64; 128],
+    low: &mut [u64; 128],
+    high: &mut [u64; 128],
+) -> u64
+    requires { ⌜ n ≤ 128 ⌝ }
+    requires { ⌜ (gravityLimits .least ≤ gravity) × (gravity ≤ gravityLimits .most) ⌝ }
+    requires { ⌜ ((j : ℕ) → j < n → (0 < getD (now solids) j 0) × (getD (now solids) j 0 ≤ solidsLimits .most)) ⌝ }
+    requires { ⌜ (2 ≤ m) × (m ≤ 64) × (compressibilitySound (points m (now void) (now stress)) ≡ true) ⌝ }
+    requires { ⌜ (length (now burden) ≡ 128) × (length (now sensitivity) ≡ 128) × (length (now low) ≡ 128) × (length (now high) ≡ 128) ⌝ }
+    ensures { λ r. ⌜ (r ≡ steepness (points m (now (void .entry)) (now (stress .entry)))) × (now (burden .exit) ≡ filled (now (burden .entry)) n (burdenAt gravity n (now (solids .entry)))) ⌝ }
+    ensures { λ _. ⌜ now (sensitivity .exit) ≡ filled (now (sensitivity .entry)) n (λ j. layer.sensitivity (getD (now (solids .entry)) j 0)) ⌝ }
+    ensures { λ _. ⌜ now (low .exit) ≡ filled (now (low .entry)) n (λ j. lowestWater (getD (now (solids .entry)) j 0) (lastAbscissa (points m (now (void .entry)) (now (stress .entry))))) ⌝ }
+    ensures { λ _. ⌜ now (high .exit) ≡ filled (now (high .entry)) n (λ j. highestWater (getD (now (solids .entry)) j 0) (firstAbscissa (points m (now (void .entry)) (now (stress .entry))))) ⌝ }
+{
+    weights::burdens(n, gravity, solids, burden);
+    reach::sensitivities(n, solids, sensitivity);
+    let last = m - 1;
+    water::water_bounds(n, solids, void[last], void[0], low, high);
+    steep::steepness(m, void, stress)
 }
 
 // What one pass of a run's loop gives: its stop, or its step with the flows up through the bottom and up through the top.
