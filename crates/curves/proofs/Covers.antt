@@ -12,19 +12,12 @@ use Rattle.numbers.specs.Arrays.{tabulate}
 use Rattle.numbers.specs.Filled.{length-tabulate}
 use Rattle.numbers.specs.Indices.{all-tabulate, every-cong}
 use Rattle.numbers.specs.Lists.{all, lastOr}
-use Rattle.numbers.specs.Searches.{passed, both, joined}
+use Rattle.numbers.specs.Searches.{passed, both, joined, same-test}
 use Rattle.rules.specs.Curve.{Point, points, curveAt, isOn, rising, covers}
 use Rattle.rules.specs.Quantities.{within, from_to_}
 use Rattle.rules.proofs.Falling.{firstAbscissa}
 use Rattle.rules.proofs.Limits.{within-parts, inside}
 use Rattle.rules.proofs.Points.{at}
-
--- tests that imply each other are equal
-same-test : (a b : Bool) → (T a → T b) → (T b → T a) → a ≡ b
-same-test true true f g = refl
-same-test true false f g = absurd (f tt)
-same-test false true f g = absurd (g tt)
-same-test false false f g = refl
 
 last-tabulate : {A : Type 0} (m : ℕ) (f : ℕ → A) → lastOr (f zero) (tabulate m (λ k. f (suc k))) ≡ f m
 unfolding lastOr tabulate

@@ -12,7 +12,7 @@ use mathlib.Core.Logic.{_↔_}
 use mathlib.Core.Path.{_≡_, refl}
 use Rattle.numbers.specs.Rounding.{floor, ceil}
 use Rattle.numbers.specs.Division.{le-floor, ceil-le}
-use Rattle.numbers.specs.Searches.{both, joined}
+use Rattle.numbers.specs.Searches.{both, joined, same-test}
 use Rattle.rules.specs.Curve.{Point, isOn, falling}
 use Rattle.rules.specs.Layer.{voidRatio, effectiveStress}
 use Rattle.rules.specs.Step.{onCurve}
@@ -57,13 +57,6 @@ module _ (S : ℕ) (solid : 0 < S) (W : ℕ) where
       let c = le-floor {b = 100_000_000} (lit< tt) W ((u + 1) * S - 1) in
       (λ h. c .1 (omega (arith, f .0 (omega arith))), λ h. omega (arith, f .1 (omega (arith, c .0 h))))
 
--- two tests that pass together are one
-same-test : (a b : Bool) → (T a ↔ T b) → a ≡ b
-same-test true true e = refl
-same-test true false e = absurd (e .0 tt)
-same-test false true e = absurd (e .1 tt)
-same-test false false e = refl
-
 module _ (l : List Point) (f : T (falling l)) (two : 2 ≤ length l) (S : ℕ) (solid : 0 < S) where
   -- an element is on a falling curve just where its water lies between the lowest and the highest
   pub water-bounds : (W : ℕ) →
@@ -75,10 +68,9 @@ module _ (l : List Point) (f : T (falling l)) (two : 2 ≤ length l) (S : ℕ) (
       let on = falling-on l (voidRatio S W) f two in
       let below = lowest-water S solid W (lastAbscissa l) in
       let above = highest-water S solid W (firstAbscissa l) in
-      same-test _ _ (
-        (λ t. let (v, u) = on .0 t in joined (leb low W) (leb W high) (le→leb low W (below .0 v)) (le→leb W high (above .0 u))),
-        λ t. let (v, u) = both (leb low W) (leb W high) t in on .1 (below .1 (leb→le low W v), above .1 (leb→le W high u)),
-      )
+      same-test (isOn (effectiveStress l S W)) (leb low W && leb W high)
+      (λ t. let (v, u) = on .0 t in joined (leb low W) (leb W high) (le→leb low W (below .0 v)) (le→leb W high (above .0 u)))
+      (λ t. let (v, u) = both (leb low W) (leb W high) t in on .1 (below .1 (leb→le low W v), above .1 (leb→le W high u)))
 
   -- the same for a water height that may be negative
   pub on-curve-bounds : (W : ℤ) →

@@ -22,7 +22,7 @@ use Rattle.motion.specs.declared.Moved.the-variants.{Flows, Leaves}
 use Rattle.motion.specs.Turning.{longestUpTo, turnedBy, waterTurned, flowsTurned, Worked, Shows}
 use Rattle.numbers.specs.Arrays.{firstPlaces, overlaid, filled}
 use Rattle.numbers.specs.Division.{ceil-le}
-use Rattle.numbers.specs.Filled.{length-tabulate, getD-tabulate, getD-filled}
+use Rattle.numbers.specs.Filled.{getD-filled, first-length, first-at}
 use Rattle.numbers.specs.Lists.{any, firstOr, lastOr, greatest}
 use Rattle.numbers.specs.Searches.{passed}
 use Rattle.reach.specs.Reach.{Limited, isTooLong, longestWithin}
@@ -35,14 +35,6 @@ use Rattle.rules.specs.Run.{Turn, stops, goes, turn}
 use Rattle.rules.specs.declared.answers.Stop.the-variants.{NoStep, OffCurve}
 use Rattle.rules.specs.Step.{Contact, flowsAbove, upwardFlows, moved, tooLongAt, tooLong, stressSlope, leavesCurve, stepped}
 use Rattle.rules.specs.declared.quantities.Face.{Face}
-
-first-length : (n : ℕ) (array : List ℕ) → length (firstPlaces n array) ≡ n
-unfolding firstPlaces
-first-length n array = length-tabulate n (λ i. getD array i 0)
-
-first-at : (n : ℕ) (array : List ℕ) (j : ℕ) → j < n → getD (firstPlaces n array) j 0 ≡ getD array j 0
-unfolding firstPlaces
-first-at n array j h = getD-tabulate n (λ i. getD array i 0) j 0 h
 
 -- the same for equal arrays
 pub readable-as : (n : ℕ) {excess excess′ : List ℤ} {resistance resistance′ : List ℕ} → excess′ ≡ excess → resistance′ ≡ resistance →

@@ -25,6 +25,13 @@ pub joined : (a b : Bool) → T a → T b → T (a && b)
 joined true b s t = t
 joined false b s t = absurd s
 
+-- two tests that pass together are one
+pub same-test : (a b : Bool) → (T a → T b) → (T b → T a) → a ≡ b
+same-test true true f g = refl
+same-test true false f g = absurd (f tt)
+same-test false true f g = absurd (g tt)
+same-test false false f g = refl
+
 -- a value by cases of a test
 pub by-test : (b : Bool) (P : Bool → Type 0) → (T b → P true) → (T (not b) → P false) → P b
 by-test true P yes-case no-case = yes-case tt

@@ -1,0 +1,60 @@
+// The fields of a job.
+ghost use lib.ListN.{length};
+ghost use mathlib.Core.Path.{_≡_};
+ghost use Prim.Native.Nat.{_+_, _*_, _≤_, _<_};
+ghost use Rattle.rules.specs.Job.{field, firsts, pairLength};
+
+pub const HEADER_LENGTH: usize = 48;
+
+// The length of each pair of 64-bit fields.
+pub const PAIR_LENGTH: usize = 16;
+
+// The number in a field of so many bytes, lowest first.
+pub fn field(job: &[u8], size: usize, offset: usize) -> u64
+    requires { ⌜ (size ≤ 8) × (offset + size ≤ length (now job)) ⌝ }
+    ensures { λ r. ⌜ r ≡ field size offset (now (job .entry)) ⌝ }
+{
+    let mut value: u64 = 0;
+    let mut i = size;
+    while 0 < i {
+        i -= 1;
+        value = job[offset + i] as u64 + 256 * value;
+    }
+    value
+}
+
+// The number in a field of one byte.
+pub fn byte(job: &[u8], offset: usize) -> u8
+    requires { ⌜ offset < length (now job) ⌝ }
+    ensures { λ r. ⌜ r ≡ field 1 offset (now (job .entry)) ⌝ }
+{
+    job[offset]
+}
+
+// The first fields of pairs that begin at an offset, in an array for elements. The second fields begin 8 bytes on.
+pub fn firsts_128(job: &[u8], offset: usize, count: usize) -> [u64; 128]
+    requires { ⌜ (count ≤ 128) × (offset + pairLength * count ≤ length (now job) + 8) ⌝ }
+    ensures { λ r. ⌜ r ≡ firsts 128 offset count (now (job .entry)) ⌝ }
+{
+    let mut heights = [0; 128];
+    let mut i = 0;
+    while i < count {
+        heights[i] = field(job, 8, offset + PAIR_LENGTH * i);
+        i += 1;
+    }
+    heights
+}
+
+// The same in an array for points.
+pub fn firsts_64(job: &[u8], offset: usize, count: usize) -> [u64; 64]
+    requires { ⌜ (count ≤ 64) × (offset + pairLength * count ≤ length (now job) + 8) ⌝ }
+    ensures { λ r. ⌜ r ≡ firsts 64 offset count (now (job .entry)) ⌝ }
+{
+    let mut numbers = [0; 64];
+    let mut i = 0;
+    while i < count {
+        numbers[i] = field(job, 8, offset + PAIR_LENGTH * i);
+        i += 1;
+    }
+    numbers
+}

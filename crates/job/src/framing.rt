@@ -1,0 +1,68 @@
+// The causes 1 to 4, which are tested before a job is read.
+ghost use lib.Dec.{ltb, eqb};
+ghost use lib.ListN.{length};
+ghost use mathlib.Core.Bool.{not, _||_};
+ghost use mathlib.Core.Path.{_≡_};
+ghost use Prim.Native.Nat.{_≤_};
+ghost use Rattle.job.specs.Framing.{framing};
+ghost use Rattle.rules.specs.Job.{described, field, headerKept, headerLength, jobLength, marked};
+use crate::fields;
+use crate::fields::HEADER_LENGTH;
+use crate::header;
+use rules::answers::Refusal;
+
+// Whether a job may be read, or the cause for which it is refused.
+pub enum Framed {
+    Sound,
+    Refused(Refusal),
+}
+
+// Cause 1.
+pub fn short_or_unmarked(job: &[u8]) -> bool
+    ensures { λ r. ⌜ r ≡ (ltb (length (now (job .entry))) headerLength || not (marked (now (job .entry)))) ⌝ }
+{
+    job.len() < HEADER_LENGTH || !header::marked(job)
+}
+
+// Cause 2.
+pub fn other_version(job: &[u8]) -> bool
+    requires { ⌜ headerLength ≤ length (now job) ⌝ }
+    ensures { λ r. ⌜ r ≡ not (eqb (field 2 3 (now (job .entry))) 1) ⌝ }
+{
+    fields::field(job, 2, 3) != 1
+}
+
+// Cause 3.
+pub fn header_outside(job: &[u8]) -> bool
+    requires { ⌜ headerLength ≤ length (now job) ⌝ }
+    ensures { λ r. ⌜ r ≡ (not (headerKept (described (now (job .entry)))) || not (eqb (field 2 14 (now (job .entry))) 0)) ⌝ }
+{
+    !header::header_kept(job) || fields::field(job, 2, 14) != 0
+}
+
+// Cause 4.
+pub fn wrong_length(job: &[u8]) -> bool
+    requires { ⌜ headerLength ≤ length (now job) ⌝ }
+    ensures { λ r. ⌜ r ≡ not (eqb (length (now (job .entry))) (jobLength (described (now (job .entry))))) ⌝ }
+{
+    job.len() != header::job_length(job)
+}
+
+// The first of these causes that holds.
+pub fn frame(job: &[u8]) -> Framed
+    ensures { λ r. ⌜ r ≡ framing (now (job .entry)) ⌝ }
+{
+    if short_or_unmarked(job) {
+        return Framed::Refused(Refusal::ShortOrUnmarked);
+    }
+    if other_version(job) {
+        return Framed::Refused(Refusal::OtherVersion);
+    }
+    if header_outside(job) {
+        return Framed::Refused(Refusal::HeaderOutside);
+    }
+    if wrong_length(job) {
+        return Framed::Refused(Refusal::WrongLength);
+    }
+    Framed::Sound
+}

@@ -1,0 +1,72 @@
+// The tests of a job's first 16 bytes, and its length by its counts.
+ghost use lib.ListN.{length};
+ghost use mathlib.Core.Path.{_≡_};
+ghost use Prim.Native.Nat.{_≤_};
+ghost use Rattle.rules.specs.Job.{described, headerKept, headerLength, jobLength, marked};
+ghost use Rattle.rules.specs.Record.{headerSound};
+use crate::fields;
+use crate::fields::HEADER_LENGTH;
+use crate::fields::PAIR_LENGTH;
+use rules::quantities;
+use rules::quantities::Gravity;
+
+// Whether a job begins with its mark.
+pub fn marked(job: &[u8]) -> bool
+    requires { ⌜ headerLength ≤ length (now job) ⌝ }
+    ensures { λ r. ⌜ r ≡ marked (now (job .entry)) ⌝ }
+{
+    (job[0] == b'L') & (job[1] == b'S') & (job[2] == b'C')
+}
+
+// Whether the numbers of a job's bytes 5 to 13 keep their limits.
+pub fn header_sound(
+    top: u8,
+    bottom: u8,
+    elements: usize,
+    compressibility_points: usize,
+    conductivity_points: usize,
+    table_points: usize,
+    start: u8,
+    gravity: u64,
+) -> bool
+    ensures { λ r. ⌜ r ≡ headerSound top bottom elements «compressibility_points» «conductivity_points» «table_points» start gravity ⌝ }
+{
+    quantities::within(0, 1, top as u64)
+        & quantities::within(0, 1, bottom as u64)
+        & quantities::within(1, 128, elements as u64)
+        & quantities::within(2, 64, compressibility_points as u64)
+        & quantities::within(2, 64, conductivity_points as u64)
+        & quantities::within(1, 64, table_points as u64)
+        & quantities::within(0, 1, start as u64)
+        & Gravity::holds(gravity)
+}
+
+// Whether those of a job do.
+pub fn header_kept(job: &[u8]) -> bool
+    requires { ⌜ headerLength ≤ length (now job) ⌝ }
+    ensures { λ r. ⌜ r ≡ headerKept (described (now (job .entry))) ⌝ }
+{
+    header_sound(
+        fields::byte(job, 5),
+        fields::byte(job, 6),
+        fields::byte(job, 7) as usize,
+        fields::byte(job, 8) as usize,
+        fields::byte(job, 9) as usize,
+        fields::byte(job, 10) as usize,
+        fields::byte(job, 11),
+        fields::field(job, 2, 12),
+    )
+}
+
+// The length that a job's four counts ask for.
+pub fn job_length(job: &[u8]) -> usize
+    requires { ⌜ headerLength ≤ length (now job) ⌝ }
+    ensures { λ r. ⌜ r ≡ jobLength (described (now (job .entry))) ⌝ }
+{
+    let elements = fields::byte(job, 7) as usize;
+    let compressibility_points = fields::byte(job, 8) as usize;
+    let conductivity_points = fields::byte(job, 9) as usize;
+    let table_points = fields::byte(job, 10) as usize;
+    HEADER_LENGTH
+        + PAIR_LENGTH * (elements + compressibility_points + conductivity_points + table_points)
+}

@@ -1,0 +1,1 @@
+-- What the contracts of a layer's tests cite beside the rules: nothing.

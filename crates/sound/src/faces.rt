@@ -1,0 +1,48 @@
+// The faces of a layer: their numbers, and what they hold.
+ghost use lib.IntN.{pos};
+ghost use mathlib.Core.Path.{_≡_};
+ghost use Rattle.laws.specs.Amid.{Between};
+ghost use Rattle.rules.specs.Layer.{bottomPressure};
+ghost use Rattle.rules.specs.Quantities.{levelLimits, pressure};
+ghost use Rattle.rules.specs.Record.{faceNumber, closedAtZero, faceHolds};
+use rules::quantities::Face;
+use rules::quantities::Head;
+use rules::quantities::Pressure;
+
+// The job's number of a face.
+pub fn face_number(face: Face) -> u8
+    ensures { λ r. ⌜ r ≡ faceNumber face ⌝ }
+{
+    match face {
+        Face::Closed => 0,
+        Face::Drained(_) => 1,
+    }
+}
+
+// Whether a face is closed, or holds a pressure.
+pub fn face_holds(face: Face, held: i64) -> bool
+    ensures { λ r. ⌜ r ≡ faceHolds face (pressure held) ⌝ }
+{
+    match face {
+        Face::Closed => true,
+        Face::Drained(other) => other.0 == held,
+    }
+}
+
+// Whether the bottom is drained, or its level 0.
+pub fn closed_has_no_level(bottom: Face, level: i64) -> bool
+    ensures { λ r. ⌜ r ≡ closedAtZero bottom level ⌝ }
+{
+    match bottom {
+        Face::Closed => level == 0,
+        Face::Drained(_) => true,
+    }
+}
+
+// P, what a drained bottom holds between two levels.
+pub fn bottom_pressure(top_level: i64, bottom_level: i64) -> Pressure
+    requires { ⌜ Between (pos 0) (pos (levelLimits .most)) «top_level» × Between (pos 0) (pos (levelLimits .most)) «bottom_level» ⌝ }
+    ensures { λ r. ⌜ r ≡ bottomPressure «top_level» «bottom_level» ⌝ }
+{
+    Head(bottom_level - top_level).as_pressure()
+}

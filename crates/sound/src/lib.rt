@@ -1,0 +1,4 @@
+// Whether a record is a layer.
+pub mod balance;
+pub mod faces;
+pub mod sizes;

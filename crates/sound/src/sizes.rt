@@ -1,0 +1,49 @@
+// Cause 5: the limits of levels, solids and water.
+ghost use mathlib.Core.Path.{_≡_};
+ghost use Prim.Native.Nat.{_≤_};
+ghost use Rattle.numbers.specs.Arrays.{firstPlaces};
+ghost use Rattle.numbers.specs.Lists.{all};
+ghost use Rattle.rules.specs.Layer.{Site};
+ghost use Rattle.rules.specs.Quantities.{within, from_to_};
+ghost use Rattle.rules.specs.Record.{sizesSound};
+use crate::faces;
+use rules::quantities;
+use rules::quantities::Face;
+use rules::quantities::Head;
+use rules::quantities::Solids;
+use rules::quantities::Water;
+
+// Whether the first n numbers keep limits.
+pub fn all_within(n: usize, least: u64, most: u64, numbers: &[u64; 128]) -> bool
+    requires { ⌜ n ≤ 128 ⌝ }
+    ensures { λ r. ⌜ r ≡ all (within (from least to most)) (firstPlaces n (now (numbers .entry))) ⌝ }
+{
+    let mut j: usize = 0;
+    while j < n {
+        if !quantities::within(least, most, numbers[j]) {
+            return false;
+        }
+        j += 1;
+    }
+    true
+}
+
+// Whether levels, solids and water keep their limits, and a closed bottom has level 0.
+pub fn sizes_sound<'a>(
+    n: usize,
+    top_level: Head,
+    bottom_level: Head,
+    bottom: Face,
+    solids: &'a [u64; 128],
+    water: &'a [u64; 128],
+) -> bool
+    requires { ⌜ n ≤ 128 ⌝ }
+    ensures { λ r. ⌜ ((site : Site) → site .topLevel ≡ «top_level» .0 → site .bottomLevel ≡ «bottom_level» .0 → site .bottom ≡ bottom → site .solids ≡ firstPlaces n (now (solids .entry)) → r ≡ sizesSound site (firstPlaces n (now (water .entry)))) ⌝ }
+{
+    let level = bottom_level.0;
+    top_level.is_level()
+        & bottom_level.is_level()
+        & faces::closed_has_no_level(bottom, level)
+        & all_within(n, Solids::LEAST, Solids::MOST, solids)
+        & all_within(n, Water::LEAST, Water::MOST, water)
+}

@@ -1,0 +1,95 @@
+-- Resting water, from the lowest element up.
+use Prim.Native.Nat.{ℕ, zero, suc, _+_, _≤_, _<_}
+use native.Mathlib.Omega.{arith}
+use lib.Dec.{leb}
+use borrow.Author.Tests.{le-leb, lt-leb}
+use mathlib.Core.Bool.{Bool, true, false}
+use mathlib.Core.List.{List, [], _∷_}
+use mathlib.Core.Option.{Option, none, some, Option·none-ne-some}
+use mathlib.Core.Path.{_≡_, refl, sym, ap, _∙_}
+use Rattle.numbers.specs.Arrays.{tabulate}
+use Rattle.rules.specs.Curve.{Point}
+use Rattle.rules.specs.Layer.{Site}
+use Rattle.rules.specs.Start.{restingWater, lastStress, prepended, restingFrom}
+use Rattle.start.specs.Rest.{restingUnder, restingHeights}
+
+module _ (curve : List Point) (load B S : ℕ) where
+  -- load + B not above the last stress, and above it
+  pub under-last : load + B ≤ lastStress curve → restingUnder curve load B S ≡ restingWater curve S (load + B)
+  unfolding restingUnder
+  under-last h = rw (le-leb (load + B) (lastStress curve) h, restingUnder)
+
+  pub above-last : lastStress curve < load + B → restingUnder curve load B S ≡ none
+  unfolding restingUnder
+  above-last h = rw (lt-leb (load + B) (lastStress curve) h, restingUnder)
+
+-- the resting water of one element before that of the rest
+from-step : (site : Site) (load B S : ℕ) (Bs Ss : List ℕ) →
+    restingFrom site load (B ∷ Bs) (S ∷ Ss) ≡ prepended (restingUnder site.compressibility load B S) (restingFrom site load Bs Ss)
+unfolding restingFrom restingUnder prepended
+from-step site load B S Bs Ss = go (leb (load + B) (lastStress site.compressibility))
+  where
+    go : (c : Bool) →
+        _≡_ {A = Option (List ℕ)}
+        (elim c [ true ↦ prepended (restingWater site.compressibility S (load + B)) (restingFrom site load Bs Ss) | false ↦ none ])
+        (prepended (elim c as (λ _. Option ℕ) [ true ↦ restingWater site.compressibility S (load + B) | false ↦ none ]) (restingFrom site load Bs Ss))
+    go true = refl
+    go false = refl
+
+-- where the rest have none, all have none
+prepended-none : (o : Option ℕ) → prepended o none ≡ none
+unfolding prepended
+prepended-none (some W) = refl
+prepended-none none = refl
+
+module _ (site : Site) (load : ℕ) where
+  -- element i rests at a height
+  abbrev pub RestsAt : (B S h : ℕ → ℕ) → ℕ → Type 0
+  RestsAt B S h i = restingUnder site.compressibility load (B i) (S i) ≡ some (h i)
+
+  -- all elements rest
+  pub all-rest : (n : ℕ) (B S h : ℕ → ℕ) → ((i : ℕ) → i < n → RestsAt B S h i) →
+      restingFrom site load (tabulate n B) (tabulate n S) ≡ some (tabulate n h)
+  unfolding tabulate prepended restingFrom
+  all-rest zero B S h e = refl
+  all-rest (suc n) B S h e =
+      from-step site load (B 0) (S 0) (tabulate n (λ i. B (suc i))) (tabulate n (λ i. S (suc i))) ∙
+      rw (e 0 (omega arith), all-rest n (λ i. B (suc i)) (λ i. S (suc i)) (λ i. h (suc i)) (λ i k. e (suc i) (omega arith)))
+
+  -- some element does not
+  pub one-not : (n j : ℕ) (B S : ℕ → ℕ) → j < n → restingUnder site.compressibility load (B j) (S j) ≡ none →
+      restingFrom site load (tabulate n B) (tabulate n S) ≡ none
+  unfolding tabulate prepended
+  one-not zero j B S h e = absurd (omega arith)
+  one-not (suc n) zero B S h e =
+      from-step site load (B 0) (S 0) (tabulate n (λ i. B (suc i))) (tabulate n (λ i. S (suc i))) ∙ rw e
+  one-not (suc n) (suc j) B S h e =
+      from-step site load (B 0) (S 0) (tabulate n (λ i. B (suc i))) (tabulate n (λ i. S (suc i))) ∙
+      rw (one-not n j (λ i. B (suc i)) (λ i. S (suc i)) (omega arith) e) (prepended-none (restingUnder site.compressibility load (B 0) (S 0)))
+
+  -- where all elements rest, their resting water is that of as many as do
+  pub heights-all : (Bs Ss water : List ℕ) → restingFrom site load Bs Ss ≡ some water → restingHeights site.compressibility load Bs Ss ≡ water
+  unfolding restingFrom restingHeights prepended
+  heights-all [] Ss water e = cc
+  heights-all (B ∷ Bs) [] water e = cc
+  heights-all (B ∷ Bs) (S ∷ Ss) water e = go (restingUnder site.compressibility load B S) (restingFrom site load Bs Ss) (heights-all Bs Ss) water (sym (from-step site load B S Bs Ss) ∙ e)
+    where
+      go : (o : Option ℕ) (rest : Option (List ℕ)) → ((water : List ℕ) → rest ≡ some water → restingHeights site.compressibility load Bs Ss ≡ water) →
+          (water : List ℕ) → prepended o rest ≡ some water →
+          _≡_ {A = List ℕ} (elim o [ some W ↦ W ∷ restingHeights site.compressibility load Bs Ss | none ↦ [] ]) water
+      go none rest ih water e = absurd (Option·none-ne-some water e)
+      go (some W) none ih water e = absurd (Option·none-ne-some water e)
+      go (some W) (some more) ih water e = let same = ih more refl in cc
+
+-- the resting water of the first elements, up to one that does not rest, or of all
+pub heights-until : (curve : List Point) (load n j : ℕ) (B S h : ℕ → ℕ) → j ≤ n →
+    ((i : ℕ) → i < j → restingUnder curve load (B i) (S i) ≡ some (h i)) → (j < n → restingUnder curve load (B j) (S j) ≡ none) →
+    restingHeights curve load (tabulate n B) (tabulate n S) ≡ tabulate j h
+unfolding tabulate restingHeights
+heights-until curve load zero zero B S h k e f = refl
+heights-until curve load zero (suc j) B S h k e f = absurd (omega arith)
+heights-until curve load (suc n) zero B S h k e f = rw (f (omega arith), restingHeights)
+heights-until curve load (suc n) (suc j) B S h k e f =
+    rw (e 0 (omega arith), restingHeights)
+    (ap (λ (l : List ℕ). h 0 ∷ l)
+    (heights-until curve load n j (λ i. B (suc i)) (λ i. S (suc i)) (λ i. h (suc i)) (omega arith) (λ i l. e (suc i) (omega arith)) (λ l. f (omega arith))))

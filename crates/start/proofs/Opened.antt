@@ -1,0 +1,46 @@
+-- The water of a start, from what the functions answer.
+use Prim.Native.Nat.{ℕ, _<_}
+use lib.Dec.{eqb}
+use lib.IntN.{pos}
+use lib.ListN.{getD}
+use mathlib.Core.Bool.{Bool, true, false}
+use mathlib.Core.List.{List, map}
+use mathlib.Core.Option.{Option, none, some}
+use mathlib.Core.Path.{_≡_, refl, sym, ap, _∙_}
+use Rattle.laws.specs.Lengths.{burdens-length}
+use Rattle.numbers.specs.Arrays.{firstPlaces, overlaid}
+use Rattle.numbers.specs.Filled.{length-tabulate, tabulated}
+use Rattle.rules.specs.Layer.{Site, burdens}
+use Rattle.rules.specs.Start.{restingFrom, startWater}
+use Rattle.rules.specs.Step.{allOnCurve}
+use Rattle.start.specs.Rest.{restingHeights, allOrNone}
+use Rattle.start.proofs.Heights.{heights-all}
+
+-- an array of burdens holds the list of them
+pub burdens-in : (g n : ℕ) (solids burden : List ℕ) →
+    ((j : ℕ) → j < n → getD burden j 0 ≡ getD (burdens g (firstPlaces n solids)) j 0) → burdens g (firstPlaces n solids) ≡ firstPlaces n burden
+unfolding firstPlaces
+burdens-in g n solids burden same =
+    tabulated n (λ j. getD burden j 0) (burdens g (firstPlaces n solids)) 0
+    (burdens-length g (firstPlaces n solids) ∙ length-tabulate n (λ j. getD solids j 0)) (λ j h. sym (same j h))
+
+module _ (site : Site) (start : ℕ) (given : List ℕ) (load : ℕ) where
+  -- start 0: as given, where all of it is on the curve
+  pub given-start : eqb start 0 ≡ true →
+      startWater site start given load ≡ allOrNone (allOnCurve site.compressibility site.solids (map pos given)) given
+  unfolding startWater allOrNone
+  given-start e = rw (e, startWater) (go (allOnCurve site.compressibility site.solids (map pos given)))
+    where
+      go : (on : Bool) → _≡_ {A = Option (List ℕ)} (elim on [ true ↦ some given | false ↦ none ]) (allOrNone on given)
+      go true = refl
+      go false = refl
+
+  -- start 1: at rest, where every element is
+  pub resting-start : eqb start 0 ≡ false → startWater site start given load ≡ restingFrom site load (burdens site.gravity site.solids) site.solids
+  unfolding startWater
+  resting-start e = rw (e, startWater)
+
+-- the array of resting water, where every element rests
+pub resting-array : (site : Site) (load : ℕ) (Bs Ss water start after : List ℕ) → restingFrom site load Bs Ss ≡ some water →
+    after ≡ overlaid (restingHeights site.compressibility load Bs Ss) start → after ≡ overlaid water start
+resting-array site load Bs Ss water start after e k = k ∙ ap (λ (l : List ℕ). overlaid l start) (heights-all site load Bs Ss water e)

@@ -1,0 +1,168 @@
+// The water of an opened layer: as given, or at rest under a load.
+ghost use lib.Dec.{leb};
+ghost use lib.IntN.{pos};
+ghost use lib.ListN.{length, getD};
+ghost use mathlib.Core.Bool.{true, _&&_};
+ghost use mathlib.Core.List.{map};
+ghost use mathlib.Core.Path.{_≡_};
+ghost use Prim.Native.Nat.{ℕ, _≤_, _<_};
+ghost use Rattle.element.specs.Elements.{mostBurden};
+ghost use Rattle.laws.specs.Bounds.{lowestWater, highestWater};
+ghost use Rattle.numbers.specs.Arrays.{firstPlaces, overlaid};
+ghost use Rattle.rules.specs.Curve.{points, compressibilitySound};
+ghost use Rattle.rules.specs.Layer.{Site, effectiveStress};
+ghost use Rattle.rules.specs.Quantities.{stressLimits, voidLimits, solidsLimits, waterLimits};
+ghost use Rattle.rules.specs.Start.{atMost, restingWater, restingFrom};
+ghost use Rattle.rules.specs.Step.{allOnCurve};
+ghost use Rattle.start.specs.Rest.{restingAnswer, restingUnder, restingHeights, allOrNone};
+use curves::reading;
+use rules::quantities::CurveValue;
+
+// Where the water of an element rests: at a height, or at none.
+pub enum Resting {
+    At(u64),
+    Nowhere,
+}
+
+// Whether an element is on a curve that goes from a least to a greatest void ratio, whatever its water.
+pub fn on_curve(solids: u64, water: u64, least: u64, greatest: u64) -> bool
+    requires { ⌜ (0 < solids) × (solids ≤ solidsLimits .most) ⌝ }
+    requires { ⌜ (least ≤ voidLimits .most) × (greatest ≤ voidLimits .most) ⌝ }
+    ensures { λ r. ⌜ r ≡ leb (lowestWater solids least) water && leb water (highestWater solids greatest) ⌝ }
+{
+    water::lowest_water(solids, least) <= water && water <= water::highest_water(solids, greatest)
+}
+
+// Whether every element is on a sound compressibility curve, whatever its water. The stresses only say which curve.
+pub fn all_on_curve<'a>(
+    n: usize,
+    solids: &'a [u64; 128],
+    water: &'a [u64; 128],
+    m: usize,
+    void: &'a [u64; 64],
+    stress: &'a [u64; 64],
+) -> bool
+    requires { ⌜ n ≤ 128 ⌝ }
+    requires { ⌜ ((j : ℕ) → j < n → (0 < getD (now solids) j 0) × (getD (now solids) j 0 ≤ solidsLimits .most)) ⌝ }
+    requires { ⌜ (2 ≤ m) × (m ≤ 64) ⌝ }
+    requires { ⌜ compressibilitySound (points m (now void) (now stress)) ≡ true ⌝ }
+    ensures { λ r. ⌜ r ≡ allOnCurve (points m (now (void .entry)) (now (stress .entry))) (firstPlaces n (now (solids .entry))) (map pos (firstPlaces n (now (water .entry)))) ⌝ }
+{
+    let least = void[m - 1];
+    let greatest = void[0];
+    let mut j: usize = 0;
+    while j < n {
+        if !on_curve(solids[j], water[j], least, greatest) {
+            return false;
+        }
+        j += 1;
+    }
+    true
+}
+
+// Whether an element is on the curve and its effective stress is at most so much.
+pub fn rests<'a>(
+    solids: u64,
+    water: u64,
+    most: u64,
+    m: usize,
+    void: &'a [u64; 64],
+    stress: &'a [u64; 64],
+) -> bool
+    requires { ⌜ (0 < solids) × (water ≤ waterLimits .most) ⌝ }
+    requires { ⌜ (2 ≤ m) × (m ≤ 64) ⌝ }
+    requires { ⌜ compressibilitySound (points m (now void) (now stress)) ≡ true ⌝ }
+    ensures { λ r. ⌜ r ≡ atMost (effectiveStress (points m (now (void .entry)) (now (stress .entry))) solids water) most ⌝ }
+{
+    let ratio = element::void_ratio(solids, water);
+    let found = reading::read_from_first(m, void, stress, ratio);
+    let value = found.value;
+    match value {
+        CurveValue::On(read) => read <= most,
+        CurveValue::Off => false,
+    }
+}
+
+// The least height on the curve whose effective stress is at most so much, by halves of the heights on the curve.
+pub fn resting_water<'a>(
+    solids: u64,
+    most: u64,
+    m: usize,
+    void: &'a [u64; 64],
+    stress: &'a [u64; 64],
+) -> Resting
+    requires { ⌜ (0 < solids) × (solids ≤ solidsLimits .most) ⌝ }
+    requires { ⌜ (2 ≤ m) × (m ≤ 64) ⌝ }
+    requires { ⌜ compressibilitySound (points m (now void) (now stress)) ≡ true ⌝ }
+    ensures { λ r. ⌜ r ≡ restingAnswer (restingWater (points m (now (void .entry)) (now (stress .entry))) solids most) ⌝ }
+{
+    let mut high = water::highest_water(solids, void[0]);
+    if !rests(solids, high, most, m, void, stress) {
+        return Resting::Nowhere;
+    }
+    let mut low = water::lowest_water(solids, void[m - 1]);
+    while low < high {
+        let middle = low + (high - low) / 2;
+        if rests(solids, middle, most, m, void, stress) {
+            high = middle;
+        } else {
+            low = middle + 1;
+        }
+    }
+    Resting::At(high)
+}
+
+// The resting water of an element under load + B: nowhere where that is above the last stress.
+pub fn resting_under<'a>(
+    load: u64,
+    burden: u64,
+    solids: u64,
+    m: usize,
+    void: &'a [u64; 64],
+    stress: &'a [u64; 64],
+) -> Resting
+    requires { ⌜ (load ≤ stressLimits .most) × (burden ≤ mostBurden) ⌝ }
+    requires { ⌜ (0 < solids) × (solids ≤ solidsLimits .most) ⌝ }
+    requires { ⌜ (2 ≤ m) × (m ≤ 64) ⌝ }
+    requires { ⌜ compressibilitySound (points m (now void) (now stress)) ≡ true ⌝ }
+    ensures { λ r. ⌜ r ≡ restingAnswer (restingUnder (points m (now (void .entry)) (now (stress .entry))) load burden solids) ⌝ }
+{
+    let most = load + burden;
+    if stress[m - 1] < most {
+        return Resting::Nowhere;
+    }
+    resting_water(solids, most, m, void, stress)
+}
+
+// Whether every element rests under load + B: their resting water, from the lowest up as far as they do, is put in the first places.
+pub fn resting_waters<'a>(
+    n: usize,
+    load: u64,
+    burden: &'a [u64; 128],
+    solids: &'a [u64; 128],
+    m: usize,
+    void: &'a [u64; 64],
+    stress: &'a [u64; 64],
+    water: &mut [u64; 128],
+) -> bool
+    requires { ⌜ n ≤ 128 ⌝ }
+    requires { ⌜ load ≤ stressLimits .most ⌝ }
+    requires { ⌜ ((j : ℕ) → j < n → getD (now burden) j 0 ≤ mostBurden) ⌝ }
+    requires { ⌜ ((j : ℕ) → j < n → (0 < getD (now solids) j 0) × (getD (now solids) j 0 ≤ solidsLimits .most)) ⌝ }
+    requires { ⌜ (2 ≤ m) × (m ≤ 64) ⌝ }
+    requires { ⌜ compressibilitySound (points m (now void) (now stress)) ≡ true ⌝ }
+    requires { ⌜ length (now water) ≡ 128 ⌝ }
+    ensures { λ r. ⌜ ((site : Site) → site .compressibility ≡ points m (now (void .entry)) (now (stress .entry)) → restingFrom site load (firstPlaces n (now (burden .entry))) (firstPlaces n (now (solids .entry))) ≡ allOrNone r (firstPlaces n (now (water .exit)))) ⌝ }
+    ensures { λ _. ⌜ now (water .exit) ≡ overlaid (restingHeights (points m (now (void .entry)) (now (stress .entry))) load (firstPlaces n (now (burden .entry))) (firstPlaces n (now (solids .entry)))) (now (water .entry)) ⌝ }
+{
+    let mut j: usize = 0;
+    while j < n {
+        let rest = resting_under(load, burden[j], solids[j], m, void, stress);
+        match rest {
+            Resting::At(height) => water[j] = height,
+            Resting::Nowhere => return false,
+        }
+        j += 1;
+    }
+    true
+}
