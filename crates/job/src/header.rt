@@ -7,8 +7,11 @@ ghost use Rattle.rules.specs.Record.{headerSound};
 use crate::fields;
 use crate::fields::HEADER_LENGTH;
 use crate::fields::PAIR_LENGTH;
-use rules::quantities;
+use rules::quantities::CurvePoints;
+use rules::quantities::Elements;
+use rules::quantities::Flag;
 use rules::quantities::Gravity;
+use rules::quantities::TablePoints;
 
 // Whether a job begins with its mark.
 pub fn marked(job: &[u8]) -> bool
@@ -31,13 +34,13 @@ pub fn header_sound(
 ) -> bool
     ensures { λ r. ⌜ r ≡ headerSound top bottom elements «compressibility_points» «conductivity_points» «table_points» start gravity ⌝ }
 {
-    quantities::within(0, 1, top as u64)
-        & quantities::within(0, 1, bottom as u64)
-        & quantities::within(1, 128, elements as u64)
-        & quantities::within(2, 64, compressibility_points as u64)
-        & quantities::within(2, 64, conductivity_points as u64)
-        & quantities::within(1, 64, table_points as u64)
-        & quantities::within(0, 1, start as u64)
+    Flag::holds(top as u64)
+        & Flag::holds(bottom as u64)
+        & Elements::holds(elements as u64)
+        & CurvePoints::holds(compressibility_points as u64)
+        & CurvePoints::holds(conductivity_points as u64)
+        & TablePoints::holds(table_points as u64)
+        & Flag::holds(start as u64)
         & Gravity::holds(gravity)
 }
 

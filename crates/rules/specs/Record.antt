@@ -114,19 +114,30 @@ faceHolds (Drained other) held = eqℤ (other .0) (held .0)
 unfoldable pub outflowSound : (outflow : ℤ) (clock : ℕ) → Bool
 outflowSound outflow clock = leb (natAbs outflow) (2_300_000_000 * clock)
 
--- a record is a layer
-unfoldable pub isLayer : Record → Bool
+-- what a record holds of a job meets the causes 3 and 5 to 8, and its faces hold 0 and P
+unfoldable pub siteSound : Record → Bool
 unfolding recordSite recordState headerSound faceNumber sizesSound compressibilitySound conductivitySound tableSound faceHolds
-    topPressure bottomPressure allOnCurve within withinℤ sum outflowSound
-isLayer r =
+    topPressure bottomPressure
+siteSound r =
     let site = recordSite r in
-    let s = recordState r in
     headerSound (faceNumber r.top) (faceNumber r.bottom) r.elements (r .«compressibility_points») (r .«conductivity_points»)
     (r .«table_points») 0 r.gravity &&
-    sizesSound site (s .water) && compressibilitySound (site .compressibility) &&
+    sizesSound site ((recordState r) .water) && compressibilitySound (site .compressibility) &&
     conductivitySound (site .conductivity) (site .compressibility) && tableSound (site .loadTable) &&
-    faceHolds r.top topPressure && faceHolds r.bottom (bottomPressure (site .topLevel) (site .bottomLevel)) &&
-    allOnCurve (site .compressibility) (site .solids) (map pos (s .water)) && withinℤ stressLimits (s .load) && within clockLimits (s .clock) &&
-    within startingWaterLimits (r .«starting_water») &&
-    eqℤ (pos (r .«starting_water»)) (pos (sum (s .water)) +ℤ s .topOutflow +ℤ s .bottomOutflow) &&
-    outflowSound (s .topOutflow) (s .clock) && outflowSound (s .bottomOutflow) (s .clock)
+    faceHolds r.top topPressure && faceHolds r.bottom (bottomPressure (site .topLevel) (site .bottomLevel))
+
+-- all its water is on the curve, load and clock keep their limits, the outflows theirs, and the water balances
+unfoldable pub stateSound : Record → Bool
+unfolding recordSite recordState allOnCurve within withinℤ sum outflowSound
+stateSound r =
+    let site = recordSite r in
+    let s = recordState r in
+    allOnCurve (site .compressibility) (site .solids) (map pos (s .water)) && withinℤ stressLimits (s .load) &&
+    within clockLimits (s .clock) && within startingWaterLimits (r .«starting_water») &&
+    outflowSound (s .topOutflow) (s .clock) && outflowSound (s .bottomOutflow) (s .clock) &&
+    eqℤ (pos (r .«starting_water»)) (pos (sum (s .water)) +ℤ s .topOutflow +ℤ s .bottomOutflow)
+
+-- a record is a layer
+unfoldable pub isLayer : Record → Bool
+unfolding siteSound stateSound
+isLayer r = siteSound r && stateSound r

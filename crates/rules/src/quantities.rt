@@ -1,6 +1,6 @@
 ghost use mathlib.Core.Path.{_≡_};
 ghost use Rattle.numbers.specs.Interval.{Within};
-ghost use Rattle.rules.specs.Quantities.{within, withinℤ, stressLimits, voidLimits, conductivityLimits, levelLimits, clockLimits, solidsLimits, waterLimits, stepLimits, budgetLimits, gravityLimits, pressureOf, from_to_};
+ghost use Rattle.rules.specs.Quantities.{within, withinℤ, stressLimits, voidLimits, conductivityLimits, levelLimits, clockLimits, solidsLimits, waterLimits, stepLimits, budgetLimits, gravityLimits, elementLimits, curveLimits, tableLimits, flagLimits, startingWaterLimits, pressureOf, from_to_};
 ghost use Rattle.rules.specs.Tested.{testedHead, testedPressure, testedVoid, testedClock};
 
 // Whether a number keeps limits.
@@ -251,6 +251,81 @@ impl Gravity {
         ensures { λ r. ⌜ r ≡ within gravityLimits n ⌝ }
     {
         within(Gravity::LEAST, Gravity::MOST, n)
+    }
+}
+
+// How many elements a layer has.
+pub struct Elements(pub u64);
+
+impl Elements {
+    pub const LEAST: u64 = 1;
+
+    pub const MOST: u64 = 128;
+
+    pub fn holds(n: u64) -> bool
+        ensures { λ r. ⌜ r ≡ within elementLimits n ⌝ }
+    {
+        within(Elements::LEAST, Elements::MOST, n)
+    }
+}
+
+// How many points a curve has.
+pub struct CurvePoints(pub u64);
+
+impl CurvePoints {
+    pub const LEAST: u64 = 2;
+
+    pub const MOST: u64 = 64;
+
+    pub fn holds(n: u64) -> bool
+        ensures { λ r. ⌜ r ≡ within curveLimits n ⌝ }
+    {
+        within(CurvePoints::LEAST, CurvePoints::MOST, n)
+    }
+}
+
+// How many points a load table has.
+pub struct TablePoints(pub u64);
+
+impl TablePoints {
+    pub const LEAST: u64 = 1;
+
+    pub const MOST: u64 = 64;
+
+    pub fn holds(n: u64) -> bool
+        ensures { λ r. ⌜ r ≡ within tableLimits n ⌝ }
+    {
+        within(TablePoints::LEAST, TablePoints::MOST, n)
+    }
+}
+
+// A byte that says no or yes.
+pub struct Flag(pub u64);
+
+impl Flag {
+    pub const LEAST: u64 = 0;
+
+    pub const MOST: u64 = 1;
+
+    pub fn holds(n: u64) -> bool
+        ensures { λ r. ⌜ r ≡ within flagLimits n ⌝ }
+    {
+        within(Flag::LEAST, Flag::MOST, n)
+    }
+}
+
+// All water of a layer as it was opened, in nanometres.
+pub struct StartingWater(pub u64);
+
+impl StartingWater {
+    pub const LEAST: u64 = 0;
+
+    pub const MOST: u64 = 128_000_000_000;
+
+    pub fn holds(n: u64) -> bool
+        ensures { λ r. ⌜ r ≡ within startingWaterLimits n ⌝ }
+    {
+        within(StartingWater::LEAST, StartingWater::MOST, n)
     }
 }
 

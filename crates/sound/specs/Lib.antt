@@ -1,1 +1,4 @@
--- What the contracts of a layer's tests cite beside the rules: nothing.
+-- What a sound site and a sound state say of a record.
+pub mod Sizes
+pub mod SiteFacts
+pub mod StateFacts

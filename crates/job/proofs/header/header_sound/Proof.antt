@@ -1,56 +1,65 @@
-use borrow.Author.Needs.{needs}
 use Rattle.rules.specs.Record.{headerSound}
+use borrow.Author.Needs.{needs}
 use Rattle.job.proofs.header.header_sound.Statement.{statement}
 use Rattle.job.proofs.header.header_sound.Tie as tie
 
-within-requires : tie.Need-within-requires
-within-requires c κs = search needs
-
-within-requires-2 : tie.Need-within-requires-2
-within-requires-2 c κs = search needs
-
-within-requires-3 : tie.Need-within-requires-3
-within-requires-3 c κs = search needs
-
-within-requires-4 : tie.Need-within-requires-4
-within-requires-4 c κs = search needs
-
-within-requires-5 : tie.Need-within-requires-5
-within-requires-5 c κs = search needs
-
-within-requires-6 : tie.Need-within-requires-6
-within-requires-6 c κs = search needs
-
-within-requires-7 : tie.Need-within-requires-7
-within-requires-7 c κs = search needs
-
+-- src/header.rt:37:5
 holds-requires : tie.Need-holds-requires
 holds-requires c κs = search needs
 
+-- src/header.rt:38:11
+holds-requires-2 : tie.Need-holds-requires-2
+holds-requires-2 c κs = search needs
+
+-- src/header.rt:39:11
+holds-requires-3 : tie.Need-holds-requires-3
+holds-requires-3 c κs = search needs
+
+-- src/header.rt:40:11
+holds-requires-4 : tie.Need-holds-requires-4
+holds-requires-4 c κs = search needs
+
+-- src/header.rt:41:11
+holds-requires-5 : tie.Need-holds-requires-5
+holds-requires-5 c κs = search needs
+
+-- src/header.rt:42:11
+holds-requires-6 : tie.Need-holds-requires-6
+holds-requires-6 c κs = search needs
+
+-- src/header.rt:43:11
+holds-requires-7 : tie.Need-holds-requires-7
+holds-requires-7 c κs = search needs
+
+-- src/header.rt:44:11
+holds-requires-8 : tie.Need-holds-requires-8
+holds-requires-8 c κs = search needs
+
+-- src/header.rt:25:1
 returns : tie.Need-returns
 unfolding headerSound
 returns c =
     rw (
-      c .before .before .before .before .before .before .before .within .ensures,
-      c .before .before .before .before .before .before .within2 .ensures,
-      c .before .before .before .before .before .within3 .ensures,
-      c .before .before .before .before .within4 .ensures,
-      c .before .before .before .within5 .ensures,
-      c .before .before .within6 .ensures,
-      c .before .within7 .ensures,
-      c .holds .ensures,
+      c .before .before .before .before .before .before .before .holds .ensures,
+      c .before .before .before .before .before .before .holds2 .ensures,
+      c .before .before .before .before .before .holds3 .ensures,
+      c .before .before .before .before .holds4 .ensures,
+      c .before .before .before .holds5 .ensures,
+      c .before .before .holds6 .ensures,
+      c .before .holds7 .ensures,
+      c .holds8 .ensures,
     )
 
 pub header-sound-spec : {M : Type 1} → statement M
 header-sound-spec =
     tie.close
     (tie.spec
-    within-requires
-    within-requires-2
-    within-requires-3
-    within-requires-4
-    within-requires-5
-    within-requires-6
-    within-requires-7
     holds-requires
+    holds-requires-2
+    holds-requires-3
+    holds-requires-4
+    holds-requires-5
+    holds-requires-6
+    holds-requires-7
+    holds-requires-8
     returns)
