@@ -1,0 +1,3 @@
+-- What a layer gives to the functions that work on its arrays.
+pub mod Standing
+pub mod CallLaws

@@ -1,0 +1,147 @@
+-- A record that is a layer meets what its arrays are asked for.
+use Prim.Native.Nat.{ℕ, _≤_, _<_}
+use native.Mathlib.Omega.{arith}
+use native.Mathlib.Nat.{le-trans}
+use lib.Dec.{lit≤}
+use lib.IntN.{ℤ, pos}
+use lib.ListN.{getD}
+use mathlib.Core.Bool.{true}
+use mathlib.Core.List.{List}
+use mathlib.Core.Path.{_≡_, refl, sym, ap, _∙_}
+use Rattle.laws.specs.Every as every
+use Rattle.laws.specs.Every.{Every, every-tabulate}
+use Rattle.laws.specs.Excess.{burdens-most}
+use Rattle.laws.specs.Bounds.{lowestWater, highestWater}
+use Rattle.laws.specs.Index.{points-length}
+use Rattle.laws.specs.Lengths.{burdens-length}
+use Rattle.laws.specs.Rising.{lastAbscissa}
+use Rattle.layer.proofs.StepAt.{map-tabulate, on-curve-in}
+use Rattle.layer.specs.Soil.{Soil, OnSoil}
+use Rattle.layer.specs.Weights.{burdenAt}
+use Rattle.motion.specs.Turning.{Worked, Shows}
+use Rattle.numbers.specs.Arrays.{tabulate, firstPlaces, filled}
+use Rattle.numbers.specs.Filled.{getD-filled, first-length}
+use Rattle.numbers.specs.Indices.{every-at}
+use Rattle.numbers.specs.Searches.{passed, both, is-true}
+use Rattle.rules.proofs.Falling.{firstAbscissa}
+use Rattle.rules.proofs.Sound.{falls-down}
+use Rattle.rules.specs.Curve.{Point, points, isOn, steepness}
+use Rattle.rules.specs.Layer as layer
+use Rattle.rules.specs.Layer.{effectiveStress, burdens}
+use Rattle.rules.specs.Record.{recordSite, recordState, siteSound, stateSound, isLayer}
+use Rattle.rules.specs.Step.{onCurve, allOnCurve}
+use Rattle.rules.specs.declared.record.Record.{Record}
+use Rattle.sound.specs.SiteFacts.{SiteFacts, site-facts}
+use Rattle.sound.specs.StateFacts.{StateFacts, state-facts}
+
+module _ (r : Record) (is : isLayer r ≡ true) where
+  pub site-is : SiteFacts r
+  unfolding isLayer
+  site-is = site-facts r (is-true (siteSound r) (both (siteSound r) (stateSound r) (passed is) .0))
+
+  pub state-is : StateFacts r
+  unfolding isLayer
+  state-is = state-facts r (is-true (stateSound r) (both (siteSound r) (stateSound r) (passed is) .1))
+
+  abbrev n : ℕ
+  n = r.elements
+
+  abbrev m : ℕ
+  m = r .«compressibility_points»
+
+  abbrev k : ℕ
+  k = r .«conductivity_points»
+
+  abbrev pub curve : List Point
+  curve = points m (r .«compressibility_void») (r .«compressibility_stress»)
+
+  pub counted : (0 < n) × (n ≤ 128)
+  counted = (site-is .header .elements-kept .least, site-is .header .elements-kept .most)
+
+  pub weighted : (1_000 ≤ r.gravity) × (r.gravity ≤ 5_000)
+  weighted = (site-is .header .gravity-kept .least, site-is .header .gravity-kept .most)
+
+  pub solid : (j : ℕ) → j < n → (0 < getD r.solids j 0) × (getD r.solids j 0 ≤ 100_000_000)
+  solid j h = (omega (arith, site-is .sizes .solids-least j h), site-is .sizes .solids-most j h)
+
+  pub soil : Soil m (r .«compressibility_void») (r .«compressibility_stress») k (r .«conductivity_void») r.conductivity
+  soil = record {
+    compressibility-few = site-is .header .compressibility-kept .least;
+    compressibility-many = site-is .header .compressibility-kept .most;
+    conductivity-few = site-is .header .conductivity-kept .least;
+    conductivity-many = site-is .header .conductivity-kept .most;
+    compressibility-sound = site-is .compressibility;
+    conductivity-sound = site-is .conductivity;
+  }
+
+  -- each element is on the curve
+  pub stands : (j : ℕ) → j < n → isOn (effectiveStress curve (getD r.solids j 0) (getD r.water j 0)) ≡ true
+  unfolding recordSite recordState firstPlaces onCurve
+  stands j h =
+      let W : ℕ → ℤ = λ i. pos (getD r.water i 0) in
+      let all-on : allOnCurve curve (firstPlaces n r.solids) (tabulate n W) ≡ true =
+      ap (allOnCurve curve (firstPlaces n r.solids)) (sym (map-tabulate pos n (λ i. getD r.water i 0))) ∙ state-is .on-curve in
+      is-true _ (every-at n (λ i. onCurve curve (getD r.solids i 0) (W i)) (passed (sym (on-curve-in curve n r.solids W) ∙ all-on)) j h)
+
+  module _ (burden₀ sensitivity₀ low₀ high₀ : List ℕ) where
+    abbrev pub burden : List ℕ
+    burden = filled burden₀ n (burdenAt r.gravity n r.solids)
+
+    abbrev pub sensitivity : List ℕ
+    sensitivity = filled sensitivity₀ n (λ j. layer.sensitivity (getD r.solids j 0))
+
+    abbrev pub low : List ℕ
+    low = filled low₀ n (λ j. lowestWater (getD r.solids j 0) (lastAbscissa curve))
+
+    abbrev pub high : List ℕ
+    high = filled high₀ n (λ j. highestWater (getD r.solids j 0) (firstAbscissa curve))
+
+    burden-at : (j : ℕ) → j < n → getD burden j 0 ≡ getD (burdens r.gravity (firstPlaces n r.solids)) j 0
+    unfolding burdenAt
+    burden-at j h = getD-filled burden₀ n (burdenAt r.gravity n r.solids) j 0 h
+
+    burden-most : (j : ℕ) → j < n → getD burden j 0 ≤ 510_000_000
+    unfolding firstPlaces
+    burden-most j h =
+        let Ss = firstPlaces n r.solids in
+        let Bs = burdens r.gravity Ss in
+        let most : Every (λ B. B ≤ 500_310_000) Bs =
+        burdens-most r.gravity (weighted .1) Ss (every-tabulate (λ S. S ≤ 100_000_000) n (λ i. getD r.solids i 0) (λ i l. solid i l .1))
+        (rw (first-length n r.solids) (counted .1)) in
+        rw (burden-at j h) (le-trans (every.every-at (λ B. B ≤ 500_310_000) Bs j 0 most (rw (burdens-length r.gravity Ss, first-length n r.solids) h)) (lit≤ tt))
+
+    pub on-soil : (j : ℕ) → j < n →
+        OnSoil m (r .«compressibility_void») (r .«compressibility_stress») (r .load .0) (getD burden j 0) (getD r.solids j 0) (getD r.water j 0)
+    on-soil j h = record {
+      load-between = state-is .load-between;
+      burden-most = burden-most j h;
+      solids-positive = solid j h .0;
+      solids-most = solid j h .1;
+      on-curve = stands j h;
+    }
+
+    pub worked : Worked n curve r.solids sensitivity low high (steepness curve)
+    worked = record {
+      sensitivities = λ j h. getD-filled sensitivity₀ n (λ i. layer.sensitivity (getD r.solids i 0)) j 0 h;
+      bounded = record {
+        falls = falls-down m (r .«compressibility_void») (r .«compressibility_stress») (site-is .compressibility);
+        two = rw (points-length m (r .«compressibility_void») (r .«compressibility_stress»)) (site-is .header .compressibility-kept .least);
+        solid = λ j h. solid j h .0;
+        lows = λ j h. getD-filled low₀ n (λ i. lowestWater (getD r.solids i 0) (lastAbscissa curve)) j 0 h;
+        highs = λ j h. getD-filled high₀ n (λ i. highestWater (getD r.solids i 0) (firstAbscissa curve)) j 0 h;
+      };
+      slope-is = refl;
+    }
+
+    pub shows : Shows (recordSite r) (recordState r) n r.top r.bottom (r .load .0) burden r.solids r.water m (r .«compressibility_void») (r .«compressibility_stress») k (r .«conductivity_void») r.conductivity
+    unfolding recordSite recordState
+    shows = record {
+      top-is = refl;
+      bottom-is = refl;
+      solids-are = refl;
+      compressibility-is = refl;
+      conductivity-is = refl;
+      burdens-are = λ j h. sym (burden-at j h);
+      load-is = refl;
+      water-is = refl;
+    }

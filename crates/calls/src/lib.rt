@@ -1,0 +1,3 @@
+// Load and step, on any record.
+pub mod load;
+pub mod state;
