@@ -1,3 +1,4 @@
 // Load and step, on any record.
 pub mod load;
 pub mod state;
+pub mod step;
