@@ -1,12 +1,12 @@
 // One element: what is read of it, and the flows through its faces.
-ghost use lib.IntN.{ℤ, pos, negℤ, _+ℤ_, _-ℤ_, _*ℤ_};
+ghost use lib.IntN.{ℤ, pos, negℤ, _*ℤ_};
 ghost use mathlib.Core.Path.{_≡_};
-ghost use Prim.Native.Nat.{_+_, _*_, _≤_, _<_};
+ghost use Prim.Native.Nat.{_≤_, _<_};
 ghost use Rattle.element.specs.Elements.{elementOf, mostBurden, mostExcess, mostDifference, mostResistance, mostFaceResistance};
 ghost use Rattle.laws.specs.Outflow.{HeldWithin};
 ghost use Rattle.numbers.specs.Interval.{Within};
-ghost use Rattle.numbers.specs.Rounding.{ceil, cut};
-ghost use Rattle.rules.specs.Layer.{height, voidRatio, buoyantWeight, sensitivity};
+ghost use Rattle.numbers.specs.Rounding.{cut};
+ghost use Rattle.rules.specs.Layer.{voidRatio, buoyantWeight, sensitivity, excessUnder, resistanceWith};
 ghost use Rattle.rules.specs.Step.{outward};
 ghost use Rattle.rules.specs.Quantities.{stressLimits, conductivityLimits, solidsLimits, waterLimits, stepLimits, gravityLimits};
 use rules::quantities::Face;
@@ -33,7 +33,7 @@ pub fn buoyant_weight(gravity: u64, solids: u64) -> u64
 pub fn resistance(solids: u64, water: u64, conductivity: u64) -> u64
     requires { ⌜ (solids ≤ solidsLimits .most) × (water ≤ waterLimits .most) ⌝ }
     requires { ⌜ (0 < conductivity) × (conductivity ≤ conductivityLimits .most) ⌝ }
-    ensures { λ r. ⌜ r ≡ ceil (4_905 * height solids water) conductivity ⌝ }
+    ensures { λ r. ⌜ r ≡ resistanceWith solids water conductivity ⌝ }
 {
     numbers::ceil(4_905 * (solids + water), conductivity)
 }
@@ -50,7 +50,7 @@ pub fn sensitivity(solids: u64) -> u64
 pub fn excess_pressure(load: i64, burden: u64, stress: u64) -> i64
     requires { ⌜ Within load (stressLimits .most) ⌝ }
     requires { ⌜ (burden ≤ mostBurden) × (stress ≤ stressLimits .most) ⌝ }
-    ensures { λ r. ⌜ r ≡ load +ℤ pos burden -ℤ pos stress ⌝ }
+    ensures { λ r. ⌜ r ≡ excessUnder load burden stress ⌝ }
 {
     load + burden as i64 - stress as i64
 }

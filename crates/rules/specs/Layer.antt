@@ -72,15 +72,23 @@ unfolding burden
 burdens g [] = []
 burdens g (S ∷ above) = burden g S above ∷ burdens g above
 
+-- p, under an effective stress
+abbrev pub excessUnder : (load : ℤ) (B stress : ℕ) → ℤ
+excessUnder load B stress = load +ℤ pos B -ℤ pos stress
+
 -- p
 unfoldable pub excessPressure : (compressibility : List Point) (load : ℤ) (B S W : ℕ) → ℤ
 unfolding effectiveStress valueOf
-excessPressure compressibility load B S W = load +ℤ pos B -ℤ pos (valueOf (effectiveStress compressibility S W))
+excessPressure compressibility load B S W = excessUnder load B (valueOf (effectiveStress compressibility S W))
 
--- r, from an element's middle to its face
+-- r, from an element's middle to its face, with conductivity k
+abbrev pub resistanceWith : (S W k : ℕ) → ℕ
+resistanceWith S W k = ceil (4_905 * height S W) k
+
+-- r
 unfoldable pub resistance : (conductivity : List Point) (S W : ℕ) → ℕ
 unfolding hydraulicConductivity valueOf ceil
-resistance conductivity S W = ceil (4_905 * height S W) (valueOf (hydraulicConductivity conductivity S W))
+resistance conductivity S W = resistanceWith S W (valueOf (hydraulicConductivity conductivity S W))
 
 -- c, the most by which a nanometre of water moves the void ratio
 unfoldable pub sensitivity : (S : ℕ) → ℕ
