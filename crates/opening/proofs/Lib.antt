@@ -1,0 +1,7 @@
+-- Laws of the tests of an opening, of its water and of its record.
+pub mod FieldLaws
+pub mod Checking
+pub mod Starting
+pub mod StartHeights
+pub mod OpenedRecord
+pub mod OpeningLaws
