@@ -16,10 +16,12 @@
 #include <string.h>
 #include <time.h>
 
-/* Opens the job and takes at most `turns` steps under its opening load, each the longest of at most
- * 1,000,000 s; stops early where there is no step or it would leave the curve. Writes the words of a
- * result, little-endian, 8 bytes each. Returns 0 or a refusal number. */
-uint64_t measured_turns(const uint8_t *job, size_t job_len, uint64_t turns, uint8_t *out, size_t out_len);
+/* Opens the job and runs it to the clock's limit with a budget of steps. Writes, where `out` has room for
+ * STATE_WORDS words, clock, the parts of both outflows above and below 0, and the water of 128 places.
+ * Returns the number of steps; a refused job takes none. */
+uint64_t measured_run(const uint8_t *job, size_t job_len, uint64_t budget, uint64_t *out, size_t out_len);
+
+enum { STATE_WORDS = 5 + MOST_ELEMENTS };
 
 /* The words of a result; the water of every element comes last. */
 enum { STEPS, CLOCK, TOP_OUTFLOW, BOTTOM_OUTFLOW, WATER, MOST_WORDS = WATER + MOST_ELEMENTS };
@@ -87,16 +89,14 @@ static void run_tuned(const struct problem *problem, uint64_t steps, uint64_t *r
 
 static void run_rattle(const struct problem *problem, uint64_t steps, uint64_t *result)
 {
-    const uint64_t words = WATER + problem->row->count;
-    uint8_t out[8 * MOST_WORDS];
-    uint64_t refusal = measured_turns(problem->job, problem->job_length, steps, out, 8 * words);
-    if (refusal != 0)
-        fail(problem->row, "the Rattle function refused the job with %" PRIu64, refusal);
-    for (uint64_t i = 0; i < words; i++) {
-        result[i] = 0;
-        for (int byte = 7; byte >= 0; byte--)
-            result[i] = result[i] << 8 | out[8 * i + byte];
-    }
+    uint64_t out[STATE_WORDS];
+    result[STEPS] = measured_run(problem->job, problem->job_length, steps, out, STATE_WORDS);
+    if (result[STEPS] == 0)
+        fail(problem->row, "the Rattle function took no step");
+    result[CLOCK] = out[0];
+    result[TOP_OUTFLOW] = out[1] - out[2];
+    result[BOTTOM_OUTFLOW] = out[3] - out[4];
+    memcpy(result + WATER, out + 5, problem->row->count * sizeof out[0]);
 }
 
 enum { PLAIN, TUNED, RATTLE, KERNELS };

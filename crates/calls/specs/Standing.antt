@@ -6,7 +6,7 @@ use lib.Dec.{lit≤}
 use lib.IntN.{ℤ, pos}
 use lib.ListN.{getD}
 use mathlib.Core.Bool.{true}
-use mathlib.Core.List.{List}
+use mathlib.Core.List.{List, map}
 use mathlib.Core.Path.{_≡_, refl, sym, ap, _∙_}
 use Rattle.laws.specs.Every as every
 use Rattle.laws.specs.Every.{Every, every-tabulate}
@@ -27,12 +27,24 @@ use Rattle.rules.proofs.Falling.{firstAbscissa}
 use Rattle.rules.proofs.Sound.{falls-down}
 use Rattle.rules.specs.Curve.{Point, points, isOn, steepness}
 use Rattle.rules.specs.Layer as layer
-use Rattle.rules.specs.Layer.{effectiveStress, burdens}
+use Rattle.laws.specs.Amid.{Between}
+use Rattle.rules.specs.Layer.{State, effectiveStress, burdens}
+use Rattle.rules.specs.Quantities.{stressLimits}
 use Rattle.rules.specs.Record.{recordSite, recordState, siteSound, stateSound, isLayer}
 use Rattle.rules.specs.Step.{onCurve, allOnCurve}
 use Rattle.rules.specs.declared.record.Record.{Record}
 use Rattle.sound.specs.SiteFacts.{SiteFacts, site-facts}
 use Rattle.sound.specs.StateFacts.{StateFacts, state-facts}
+
+-- where all heights are on a curve, each is
+pub each-stands : (curve : List Point) (n : ℕ) (solids water : List ℕ) → allOnCurve curve (firstPlaces n solids) (map pos (firstPlaces n water)) ≡ true →
+    (j : ℕ) → j < n → isOn (effectiveStress curve (getD solids j 0) (getD water j 0)) ≡ true
+unfolding firstPlaces onCurve
+each-stands curve n solids water e j h =
+    let W : ℕ → ℤ = λ i. pos (getD water i 0) in
+    let all-on : allOnCurve curve (firstPlaces n solids) (tabulate n W) ≡ true =
+    ap (allOnCurve curve (firstPlaces n solids)) (sym (map-tabulate pos n (λ i. getD water i 0))) ∙ e in
+    is-true _ (every-at n (λ i. onCurve curve (getD solids i 0) (W i)) (passed (sym (on-curve-in curve n solids W) ∙ all-on)) j h)
 
 module _ (r : Record) (is : isLayer r ≡ true) where
   pub site-is : SiteFacts r
@@ -76,12 +88,8 @@ module _ (r : Record) (is : isLayer r ≡ true) where
 
   -- each element is on the curve
   pub stands : (j : ℕ) → j < n → isOn (effectiveStress curve (getD r.solids j 0) (getD r.water j 0)) ≡ true
-  unfolding recordSite recordState firstPlaces onCurve
-  stands j h =
-      let W : ℕ → ℤ = λ i. pos (getD r.water i 0) in
-      let all-on : allOnCurve curve (firstPlaces n r.solids) (tabulate n W) ≡ true =
-      ap (allOnCurve curve (firstPlaces n r.solids)) (sym (map-tabulate pos n (λ i. getD r.water i 0))) ∙ state-is .on-curve in
-      is-true _ (every-at n (λ i. onCurve curve (getD r.solids i 0) (W i)) (passed (sym (on-curve-in curve n r.solids W) ∙ all-on)) j h)
+  unfolding recordSite recordState
+  stands = each-stands curve n r.solids r.water (state-is .on-curve)
 
   module _ (burden₀ sensitivity₀ low₀ high₀ : List ℕ) where
     abbrev pub burden : List ℕ
@@ -96,11 +104,11 @@ module _ (r : Record) (is : isLayer r ≡ true) where
     abbrev pub high : List ℕ
     high = filled high₀ n (λ j. highestWater (getD r.solids j 0) (firstAbscissa curve))
 
-    burden-at : (j : ℕ) → j < n → getD burden j 0 ≡ getD (burdens r.gravity (firstPlaces n r.solids)) j 0
+    pub burden-at : (j : ℕ) → j < n → getD burden j 0 ≡ getD (burdens r.gravity (firstPlaces n r.solids)) j 0
     unfolding burdenAt
     burden-at j h = getD-filled burden₀ n (burdenAt r.gravity n r.solids) j 0 h
 
-    burden-most : (j : ℕ) → j < n → getD burden j 0 ≤ 510_000_000
+    pub burden-most : (j : ℕ) → j < n → getD burden j 0 ≤ 510_000_000
     unfolding firstPlaces
     burden-most j h =
         let Ss = firstPlaces n r.solids in
@@ -110,15 +118,21 @@ module _ (r : Record) (is : isLayer r ≡ true) where
         (rw (first-length n r.solids) (counted .1)) in
         rw (burden-at j h) (le-trans (every.every-at (λ B. B ≤ 500_310_000) Bs j 0 most (rw (burdens-length r.gravity Ss, first-length n r.solids) h)) (lit≤ tt))
 
-    pub on-soil : (j : ℕ) → j < n →
-        OnSoil m (r .«compressibility_void») (r .«compressibility_stress») (r .load .0) (getD burden j 0) (getD r.solids j 0) (getD r.water j 0)
-    on-soil j h = record {
-      load-between = state-is .load-between;
+    -- an element under any load, with any water on the curve
+    pub on-soil-with : (load : ℤ) (water : List ℕ) → Between (pos 0) (pos (stressLimits .most)) load →
+        ((j : ℕ) → j < n → isOn (effectiveStress curve (getD r.solids j 0) (getD water j 0)) ≡ true) → (j : ℕ) → j < n →
+        OnSoil m (r .«compressibility_void») (r .«compressibility_stress») load (getD burden j 0) (getD r.solids j 0) (getD water j 0)
+    on-soil-with load water limits on j h = record {
+      load-between = limits;
       burden-most = burden-most j h;
       solids-positive = solid j h .0;
       solids-most = solid j h .1;
-      on-curve = stands j h;
+      on-curve = on j h;
     }
+
+    pub on-soil : (j : ℕ) → j < n →
+        OnSoil m (r .«compressibility_void») (r .«compressibility_stress») (r .load .0) (getD burden j 0) (getD r.solids j 0) (getD r.water j 0)
+    on-soil = on-soil-with (r .load .0) r.water (state-is .load-between) stands
 
     pub worked : Worked n curve r.solids sensitivity low high (steepness curve)
     worked = record {
@@ -133,9 +147,11 @@ module _ (r : Record) (is : isLayer r ≡ true) where
       slope-is = refl;
     }
 
-    pub shows : Shows (recordSite r) (recordState r) n r.top r.bottom (r .load .0) burden r.solids r.water m (r .«compressibility_void») (r .«compressibility_stress») k (r .«conductivity_void») r.conductivity
-    unfolding recordSite recordState
-    shows = record {
+    -- the arrays with any water show the record's site and any state that has it
+    pub shows-with : (s : State) (water : List ℕ) → s.water ≡ firstPlaces n water →
+        Shows (recordSite r) s n r.top r.bottom s.load burden r.solids water m (r .«compressibility_void») (r .«compressibility_stress») k (r .«conductivity_void») r.conductivity
+    unfolding recordSite
+    shows-with s water e = record {
       top-is = refl;
       bottom-is = refl;
       solids-are = refl;
@@ -143,5 +159,9 @@ module _ (r : Record) (is : isLayer r ≡ true) where
       conductivity-is = refl;
       burdens-are = λ j h. sym (burden-at j h);
       load-is = refl;
-      water-is = refl;
+      water-is = e;
     }
+
+    pub shows : Shows (recordSite r) (recordState r) n r.top r.bottom (r .load .0) burden r.solids r.water m (r .«compressibility_void») (r .«compressibility_stress») k (r .«conductivity_void») r.conductivity
+    unfolding recordState
+    shows = shows-with (recordState r) r.water refl

@@ -7,7 +7,7 @@ use mathlib.Core.Bool.{Bool, true, false, not, _||_}
 use mathlib.Core.List.{List, [], _∷_}
 use mathlib.Core.Option.{Option, none, some}
 use mathlib.Core.Path.{_≡_, refl, sym, ap, subst}
-use Rattle.calls.specs.Standing.{site-is, state-is, curve, counted, weighted, solid, burden, sensitivity, low, high, on-soil, worked, shows}
+use Rattle.calls.specs.Standing.{site-is, state-is, curve, counted, weighted, solid, burden, sensitivity, low, high, on-soil, on-soil-with, worked, shows, shows-with}
 use Rattle.laws.specs.Every.{every-tabulate}
 use Rattle.laws.specs.Excess.{excesses-within}
 use Rattle.laws.specs.Outflow.{OuterWithin, outflow-within}
@@ -19,10 +19,11 @@ use Rattle.numbers.specs.Filled.{first-length}
 use Rattle.numbers.specs.Interval.{Within}
 use Rattle.numbers.specs.Lists.{firstOr, lastOr}
 use Rattle.numbers.specs.Searches.{passed}
-use Rattle.rules.specs.Curve.{steepness}
-use Rattle.rules.specs.Layer.{Site, State, elements}
+use Rattle.laws.specs.Amid.{Between}
+use Rattle.rules.specs.Curve.{isOn, steepness}
+use Rattle.rules.specs.Layer.{Site, State, elements, effectiveStress}
 use Rattle.rules.specs.Outcome.{Outcome, refused, outcome}
-use Rattle.rules.specs.Quantities.{within, stepLimits, clockLimits}
+use Rattle.rules.specs.Quantities.{within, stepLimits, clockLimits, stressLimits}
 use Rattle.rules.specs.Record.{recordSite, recordState, isLayer}
 use Rattle.rules.specs.Refusals.{_if_, firstCause}
 use Rattle.rules.specs.Run.{stepTaken}
@@ -76,6 +77,17 @@ module _ (r : Record) (is : isLayer r ≡ true) (burden₀ sensitivity₀ low₀
   pub on-soil-as : {b : List ℕ} → b ≡ burden r is burden₀ sensitivity₀ low₀ high₀ → (j : ℕ) → j < r.elements →
       OnSoil (r .«compressibility_points») (r .«compressibility_void») (r .«compressibility_stress») (r .load .0) (getD b j 0) (getD r.solids j 0) (getD r.water j 0)
   on-soil-as e j h = rw e (on-soil r is burden₀ sensitivity₀ low₀ high₀ j h)
+
+  pub on-soil-with-as : {b : List ℕ} (load : ℤ) (water : List ℕ) → b ≡ burden r is burden₀ sensitivity₀ low₀ high₀ →
+      Between (pos 0) (pos (stressLimits .most)) load →
+      ((j : ℕ) → j < r.elements → isOn (effectiveStress (curve r is) (getD r.solids j 0) (getD water j 0)) ≡ true) → (j : ℕ) → j < r.elements →
+      OnSoil (r .«compressibility_points») (r .«compressibility_void») (r .«compressibility_stress») load (getD b j 0) (getD r.solids j 0) (getD water j 0)
+  on-soil-with-as load water e limits on j h = rw e (on-soil-with r is burden₀ sensitivity₀ low₀ high₀ load water limits on j h)
+
+  pub shows-with-as : {b : List ℕ} (s : State) (water : List ℕ) → b ≡ burden r is burden₀ sensitivity₀ low₀ high₀ → s.water ≡ firstPlaces r.elements water →
+      Shows (recordSite r) s r.elements r.top r.bottom s.load b r.solids water (r .«compressibility_points») (r .«compressibility_void»)
+      (r .«compressibility_stress») (r .«conductivity_points») (r .«conductivity_void») r.conductivity
+  shows-with-as s water e w = rw e (shows-with r is burden₀ sensitivity₀ low₀ high₀ s water w)
 
   pub worked-as : {c l h : List ℕ} {g : ℕ} → c ≡ sensitivity r is burden₀ sensitivity₀ low₀ high₀ → l ≡ low r is burden₀ sensitivity₀ low₀ high₀ →
       h ≡ high r is burden₀ sensitivity₀ low₀ high₀ → g ≡ steepness (curve r is) → Worked r.elements (curve r is) r.solids c l h g

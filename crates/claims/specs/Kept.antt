@@ -1,0 +1,121 @@
+-- What every state keeps that accepted events lead to.
+use Prim.Native.Nat.{ℕ, _*_, _≤_, _<_}
+use native.Mathlib.Omega.{arith}
+use lib.Dec.{T, lit≤}
+use lib.IntN.{ℤ, pos, natAbs, _+ℤ_}
+use lib.ListN.{length}
+use mathlib.Core.List.{List, [], _∷_, map}
+use mathlib.Core.Path.{_≡_, sym, subst, _∙_}
+use Rattle.claims.specs.Accepted.{LoadKept, StepAccepted, Accepted, AllAccepted}
+use Rattle.laws.specs.Balance.{balance}
+use Rattle.laws.specs.Every.{Every}
+use Rattle.laws.specs.Excess.{excesses-within}
+use Rattle.laws.specs.Lengths.{stepped-length}
+use Rattle.laws.specs.OnCurve.{on-curve-parts, stays-on}
+use Rattle.laws.specs.Outflow.{outflow-within}
+use Rattle.laws.specs.Spread.{Holds}
+use Rattle.laws.specs.Steep.{steep-positive}
+use Rattle.numbers.specs.Interval.{Within, within-pos, within-le, within-add, within-sub}
+use Rattle.numbers.specs.Searches.{both, joined}
+use Rattle.numbers.specs.Sums.{sum}
+use Rattle.rules.specs.Curve.{Point, falling, compressibilitySound}
+use Rattle.rules.specs.Layer.{Site, State, elements, bottomPressure}
+use Rattle.rules.specs.Load.{tableSound, withLoad}
+use Rattle.rules.specs.Quantities.{clockLimits}
+use Rattle.rules.specs.Run.{Event, loadSet, stepTaken, afterEvent, afterEvents}
+use Rattle.rules.specs.Step.{stressSlope, upwardFlows, moved, stepped, onCurve, allOnCurve}
+use Rattle.rules.specs.declared.quantities.Face.{Face}
+use Rattle.rules.specs.declared.quantities.Face.the-variants.{Closed, Drained}
+
+-- ---- what faces hold
+
+-- a face that holds some pressure holds what follows of it
+pub holds-map : {P Q : ℤ → Type 0} → ((p : ℤ) → P p → Q p) → (face : Face) → Holds P face → Holds Q face
+unfolding Holds
+holds-map f Closed h = tt
+holds-map f (Drained held) h = f (held .0) h
+
+-- P of a site
+abbrev pub heldBelow : Site → ℤ
+heldBelow site = (bottomPressure site.topLevel site.bottomLevel) .0
+
+-- what a sound site gives to the laws of a step
+pub record SoundSite (site : Site) : Type 0 where
+  pub compressibility : T (compressibilitySound site.compressibility)
+  pub falls : T (falling site.compressibility)
+  pub two : 2 ≤ length site.compressibility
+  pub table : T (tableSound site.loadTable)
+  pub solid : Every (λ S. 0 < S) site.solids
+  pub small : Every (λ S. S ≤ 100_000_000) site.solids
+  pub few : length site.solids ≤ 128
+  pub light : site.gravity ≤ 5_000
+  pub top-holds : Holds (λ p. p ≡ pos 0) site.top
+  pub bottom-holds : Holds (λ p. p ≡ heldBelow site) site.bottom
+  pub held-within : Within (heldBelow site) 1_962_000_000
+
+-- what a state keeps, on a site and since a starting water
+pub record Kept (site : Site) (start : ℕ) (s : State) : Type 0 where
+  pub size : length s.water ≡ length site.solids
+  pub on-curve : T (allOnCurve site.compressibility site.solids (map pos s.water))
+  pub load : LoadKept s.load
+  pub clock : s.clock ≤ clockLimits .most
+  pub top-bound : Within s.topOutflow (2_300_000_000 * s.clock)
+  pub bottom-bound : Within s.bottomOutflow (2_300_000_000 * s.clock)
+  pub balanced : pos start ≡ pos (sum s.water) +ℤ s.topOutflow +ℤ s.bottomOutflow
+
+-- heights on the curve are on it without their signs, as none is negative
+unsigned-on : (curve : List Point) (Ss : List ℕ) (zs : List ℤ) → T (allOnCurve curve Ss zs) →
+    T (allOnCurve curve Ss (map pos (map natAbs zs)))
+unfolding allOnCurve onCurve
+unsigned-on curve [] zs t = tt
+unsigned-on curve (S ∷ Ss) [] t = tt
+unsigned-on curve (S ∷ Ss) (z ∷ zs) t =
+    let (here, more) = both (onCurve curve S z) (allOnCurve curve Ss zs) t in
+    joined (onCurve curve S (pos (natAbs z))) (allOnCurve curve Ss (map pos (map natAbs zs))) (on-curve-parts curve S z here .1)
+    (unsigned-on curve Ss zs more)
+
+module _ (site : Site) (sound : SoundSite site) (start : ℕ) where
+  -- a load within its limits keeps it, and so does an accepted step
+  load-keeps : (load : ℤ) (s : State) → LoadKept load → Kept site start s → Kept site start (withLoad load s)
+  unfolding withLoad
+  load-keeps load s h k = record {
+    size = k .size;
+    on-curve = k .on-curve;
+    load = h;
+    clock = k .clock;
+    top-bound = k .top-bound;
+    bottom-bound = k .bottom-bound;
+    balanced = k .balanced;
+  }
+
+  step-keeps : (t : ℕ) (s : State) → StepAccepted site s t → Kept site start s → Kept site start (stepped site t s)
+  unfolding stepped stressSlope
+  step-keeps t s a k =
+      let (enters, leaves) =
+      outflow-within site s t (a .least) (steep-positive site.compressibility (sound .falls) (sound .two)) (sound .solid)
+      (holds-map (λ p e. subst (λ (z : ℤ). Within z 1_962_000_000) (sym e) (within-le (within-pos 0) (lit≤ tt))) site.top (sound .top-holds))
+      (holds-map (λ p e. subst (λ (z : ℤ). Within z 1_962_000_000) (sym e) (sound .held-within)) site.bottom (sound .bottom-holds))
+      (excesses-within site (sound .compressibility) s (k .load) (sound .light) (sound .small) (sound .few)) (a .short)
+      in
+      record {
+        size = stepped-length site t s (k .size) ∙ k .size;
+        on-curve =
+            unsigned-on site.compressibility site.solids (moved (upwardFlows site.top site.bottom t (elements site s)) s.water)
+            (stays-on site s t (a .stays));
+        load = k .load;
+        clock = a .clock-most;
+        top-bound = within-le (within-add (k .top-bound) leaves) (omega arith);
+        bottom-bound = within-le (within-sub (k .bottom-bound) enters) (omega arith);
+        balanced = k .balanced ∙ sym (balance site t s (k .size) (a .stays));
+      }
+
+  -- so all accepted events do
+  pub event-keeps : (e : Event) (s : State) → Accepted site s e → Kept site start s → Kept site start (afterEvent site e s)
+  unfolding Accepted afterEvent
+  event-keeps (loadSet load) s a k = load-keeps load s a k
+  event-keeps (stepTaken t) s a k = step-keeps t s a k
+
+  pub events-keep : (es : List Event) (s : State) → AllAccepted site s es → Kept site start s → Kept site start (afterEvents site es s)
+  unfolding AllAccepted afterEvents
+  events-keep [] s a k = k
+  events-keep (e ∷ rest) s a k = events-keep rest (afterEvent site e s) (a .1) (event-keeps e s (a .0) k)

@@ -1,0 +1,129 @@
+-- A job that opening accepts: its record stands at the state of a layer just opened.
+use Prim.Native.Nat.{ℕ, _≤_}
+use native.Mathlib.Omega.{arith}
+use lib.IntN.{pos, _+ℤ_, +ℤ-idr}
+use lib.ListN.{length}
+use mathlib.Core.List.{List}
+use mathlib.Core.Option.{Option, none, some}
+use mathlib.Core.Path.{_≡_, refl, sym, _∙_}
+use Rattle.claims.specs.Accepted.{LoadKept}
+use Rattle.claims.specs.TableLoads.{sound-first}
+use Rattle.claims.specs.Described.{Described, described-sound, fixed-described}
+use Rattle.claims.specs.Fixed.{sound-site, water-limited, fixed-state, state-set}
+use Rattle.claims.specs.Kept.{SoundSite, Kept}
+use Rattle.claims.specs.Stands.{Stands}
+use Rattle.claims.specs.Starts.{Starts, water-starts}
+use Rattle.laws.specs.Every.{every-at}
+use Rattle.numbers.specs.Filled.{first-length}
+use Rattle.numbers.specs.Interval.{within-pos, within-le}
+use Rattle.numbers.specs.Sums.{sum, sum-le}
+use Rattle.rules.specs.Job.{described, describedRecord, jobSite, givenWater, jobCauses}
+use Rattle.rules.specs.Layer.{Site}
+use Rattle.rules.specs.Opening.{openedRecord, refusedOpening, descriptionWater, opening}
+use Rattle.rules.specs.Quantities.{startingWaterLimits, waterLimits}
+use Rattle.rules.specs.Record.{recordSite, withState}
+use Rattle.rules.specs.Refusals.{firstCause}
+use Rattle.rules.specs.Start.{openingLoad, openingState}
+use Rattle.rules.specs.declared.answers.Answer.the-variants.{Done, Refused}
+use Rattle.rules.specs.declared.answers.Answered.{Answered}
+use Rattle.rules.specs.declared.answers.Refusal.{Refusal}
+use Rattle.rules.specs.declared.answers.Refusal.the-variants.{StartOffCurve}
+use Rattle.rules.specs.declared.job.Description.{Description}
+
+-- what opening found in a job that it accepts
+pub record Opened (job : List ℕ) : Type 0 where
+  pub water : List ℕ
+  pub no-cause : firstCause (jobCauses job) ≡ none
+  pub starts : descriptionWater (described job) ≡ some water
+  pub left : (opening job) .after ≡ openedRecord (described job) water
+
+refused-done : (cause : Refusal) → Refused cause ≡ Done → ⊥
+refused-done cause e = let z : _≡_ {A = ℕ} 0 1 = cc in omega arith
+
+pub opened : (job : List ℕ) → (opening job) .answer ≡ Done → Opened job
+unfolding opening refusedOpening
+opened job e = causes (firstCause (jobCauses job)) refl e
+  where
+    found : (o : Option (List ℕ)) → Answered
+    found none = refusedOpening StartOffCurve
+    found (some water) = record { answer = Done; after = openedRecord (described job) water }
+
+    start : (o : Option (List ℕ)) → descriptionWater (described job) ≡ o → firstCause (jobCauses job) ≡ none →
+        (found o) .answer ≡ Done → Opened job
+    start none p q e = absurd (refused-done StartOffCurve e)
+    start (some water) p q e = record { water = water; no-cause = q; starts = p; left = rw (q, p, opening) }
+
+    causes : (o : Option Refusal) → firstCause (jobCauses job) ≡ o →
+        (elim o as (λ _. Answered) [
+          | some cause ↦ refusedOpening cause
+          | none ↦ found (descriptionWater (described job))
+        ]) .answer ≡ Done → Opened job
+    causes (some cause) q e = absurd (refused-done cause e)
+    causes none q e = start (descriptionWater (described job)) refl q e
+
+-- ---- its record
+
+module _ (d : Description) (s : Described d) (water : List ℕ) (starts : descriptionWater d ≡ some water) where
+  abbrev site : Site
+  site = jobSite d
+
+  -- the site is sound
+  sound : SoundSite site
+  unfolding jobSite
+  sound = sound-site (describedRecord d 0) (fixed-described d s 0 (omega arith))
+
+  -- as many solids heights and as many given heights as elements
+  solids-many : length (site .solids) ≡ d.elements
+  unfolding jobSite recordSite describedRecord
+  solids-many = first-length d.elements d.solids
+
+  given-many : length (givenWater d) ≡ d.elements
+  unfolding givenWater
+  given-many = first-length d.elements d.water
+
+  on : Starts (site .compressibility) (site .solids) water
+  unfolding descriptionWater
+  on = water-starts site (openingLoad site) d.start (givenWater d) water (given-many ∙ sym solids-many) starts
+
+  -- the starting water is within its limits
+  few : sum water ≤ startingWaterLimits .most
+  few =
+      let each =
+      water-limited (site .compressibility) (site .solids) water (sound .compressibility) (sound .solid) (sound .small) (on .size) (on .on-curve) in
+      let total = sum-le (waterLimits .most) water (λ i h. every-at (λ W. W ≤ waterLimits .most) water i 0 each h) in
+      omega (arith, on .size, sound .few)
+
+  opening-load : LoadKept (pos (openingLoad site))
+  unfolding openingLoad
+  opening-load = sound-first (site .loadTable) (sound .table)
+
+  kept : Kept site (sum water) (openingState site water)
+  unfolding openingState
+  kept = record {
+    size = on .size;
+    on-curve = on .on-curve;
+    load = opening-load;
+    clock = omega arith;
+    top-bound = within-le (within-pos 0) (omega arith);
+    bottom-bound = within-le (within-pos 0) (omega arith);
+    balanced = sym (+ℤ-idr (pos (sum water) +ℤ pos 0) ∙ +ℤ-idr (pos (sum water)));
+  }
+
+  pub opened-stands : Stands site (sum water) (openingState site water) (openedRecord d water)
+  unfolding openedRecord withState jobSite recordSite describedRecord openingState
+  opened-stands = record {
+    fixed = fixed-state (describedRecord d (sum water)) (openingState site water) (fixed-described d s (sum water) few);
+    site-is = refl;
+    state-is = state-set (describedRecord d (sum water)) (openingState site water) (on .size ∙ solids-many);
+    starting-is = refl;
+    kept = kept;
+  }
+
+-- the record that opening leaves
+pub opened-record : (job : List ℕ) (e : (opening job) .answer ≡ Done) →
+    let site = jobSite (described job) in
+    let water = (opened job e) .water in
+    Stands site (sum water) (openingState site water) ((opening job) .after)
+opened-record job e =
+    let o = opened job e in
+    rw (o .left) (opened-stands (described job) (described-sound job (o .no-cause)) (o .water) (o .starts))

@@ -1,0 +1,90 @@
+-- Term 3: what holds after every list of calls, each given the record as the one before left it, on every job that opening accepts.
+use Prim.Native.Nat.{ℕ}
+use lib.IntN.{pos, _+ℤ_, _-ℤ_}
+use lib.Signed.{_≤ℤ_}
+use mathlib.Core.List.{List}
+use mathlib.Core.Logic.{_⊎_}
+use mathlib.Core.Option.{some}
+use mathlib.Core.Path.{_≡_}
+use Rattle.claims.specs.Pressures.{pressures, lowest, highest}
+use Rattle.laws.specs.Amid.{Between}
+use Rattle.laws.specs.Every.{Every}
+use Rattle.rules.specs.Calls.{replayed}
+use Rattle.rules.specs.Job.{described, jobSite}
+use Rattle.rules.specs.Layer.{Site}
+use Rattle.rules.specs.Opening.{opening, descriptionWater}
+use Rattle.rules.specs.Record.{recordSite, recordState}
+use Rattle.rules.specs.Result.{settlement}
+use Rattle.rules.specs.Tally.{Tally, begun, Course, course, excesses, waterLeft, layerHeight, stepTraces}
+use Rattle.rules.specs.declared.answers.Answer.{Answer}
+use Rattle.rules.specs.declared.answers.Answer.the-variants.{Done, Refused}
+use Rattle.rules.specs.declared.answers.Call.{Call}
+use Rattle.rules.specs.declared.answers.Refusal.the-variants.{NoLayer}
+use Rattle.rules.specs.declared.quantities.Face.the-variants.{Closed}
+use Rattle.rules.specs.declared.record.Record.{Record}
+-- the proof
+use Rattle.claims.specs.After as after
+use Rattle.claims.specs.Opened.{opened, opened-record}
+
+-- The site of a job, the tally as it begins, its course through the calls; every answer of the calls on the record, and the record after them.
+pub record Term3 (site : Site) (first : Tally) (c : Course) (answers : List Answer) (r : Record) : Type 0 where
+  -- The record's solids, water, load, clock, outflows and starting water are the tally's, and so is every answer; cause 11 never arises.
+  pub solids-as-tallied : (recordSite r) .solids ≡ c .tally .solids
+  pub state-as-tallied : recordState r ≡ c .tally .state
+  pub starting-water-as-tallied : r .«starting_water» ≡ waterLeft (first .state)
+  pub answers-as-tallied : answers ≡ c .answers
+  pub cause-11-never-arises : Every (λ answer. answer ≡ Refused NoLayer → ⊥) answers
+  -- The starting water is the water left and both outflows; the layer has settled by both outflows; the solids are the job's.
+  pub water-balances :
+      let s = recordState r in
+      pos (waterLeft (first .state)) ≡ pos (waterLeft s) +ℤ s .topOutflow +ℤ s .bottomOutflow
+  pub settlement-of-heights :
+      settlement r ≡ pos (layerHeight (first .solids) (first .state)) -ℤ pos (layerHeight ((recordSite r) .solids) (recordState r))
+  pub settlement-by-outflows :
+      let s = recordState r in
+      settlement r ≡ s .topOutflow +ℤ s .bottomOutflow
+  pub solids-of-the-job : (recordSite r) .solids ≡ site.solids
+  -- Every excess lies between the least and the greatest of the starting excesses and the drained faces' values, less all falls of
+  -- load below and plus all rises above.
+  pub excesses-stay-between :
+      let least = lowest (pressures site (first .state)) in
+      let greatest = highest (pressures site (first .state)) in
+      Every (Between (least -ℤ pos (c .tally .falls)) (greatest +ℤ pos (c .tally .rises))) (excesses (recordSite r) (recordState r))
+  -- If the load never fell, no starting excess was negative, and the bottom is closed or at the top's level, no step, a run's own
+  -- included, lowered either outflow.
+  pub no-step-lowers-an-outflow :
+      c .tally .falls ≡ 0 → Every (λ p. pos 0 ≤ℤ p) (excesses site (first .state)) →
+      (site.bottom ≡ Closed) ⊎ (site.bottomLevel ≡ site.topLevel) →
+      Every
+      (λ step.
+      ((step .before .topOutflow) ≤ℤ (step .later .topOutflow)) × ((step .before .bottomOutflow) ≤ℤ (step .later .bottomOutflow)))
+      (stepTraces site (c .events) (first .state))
+
+-- Every job that opening accepts has the water of its start, and with it the tally of which term 3 speaks.
+pub term3 : (job : List ℕ) (calls : List Call) → (opening job) .answer ≡ Done →
+    let site = jobSite (described job) in
+    let replay = replayed ((opening job) .after) calls in
+    (water : List ℕ) × (descriptionWater (described job) ≡ some water) ×
+    Term3 site (begun site water) (course site calls (begun site water)) (replay .answers) (replay .after)
+term3 job calls accepted =
+    let site = jobSite (described job) in
+    let o = opened job accepted in
+    let w = o .water in
+    let r = (opening job) .after in
+    let h = opened-record job accepted in (
+      w,
+      o .starts,
+      record {
+        solids-as-tallied = after.same-solids site w r h calls;
+        state-as-tallied = after.same-state site w r h calls;
+        starting-water-as-tallied = after.starting-water site w r h calls;
+        answers-as-tallied = after.same-answers site w r h calls;
+        cause-11-never-arises = after.no-refusal-11 site w r h calls;
+        water-balances = after.balanced site w r h calls;
+        settlement-of-heights = after.settlement-is site w r h calls;
+        settlement-by-outflows = after.settles site w r h calls;
+        solids-of-the-job = after.job-solids site w r h calls;
+        excesses-stay-between = after.bounded site w r h calls;
+        no-step-lowers-an-outflow = after.not-lowered site w r h calls;
+      },
+    )

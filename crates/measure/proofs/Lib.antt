@@ -1,0 +1,2 @@
+-- Laws of a state's words.
+pub mod Words

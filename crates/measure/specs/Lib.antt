@@ -1,0 +1,2 @@
+-- What a measured run gives.
+pub mod Measured

@@ -1,0 +1,40 @@
+use borrow.Author.Needs.{needs}
+use Rattle.replay.specs.Words.{answerStop}
+use Rattle.replay.proofs.words.answer_stop.Statement.{statement}
+use Rattle.replay.proofs.words.answer_stop.Tie as tie
+
+enum-told : tie.Need-enum-told
+enum-told c = search needs
+
+enum-known-answer : tie.Need-enum-known-answer
+enum-known-answer c = search needs
+
+stop-number-requires : tie.Need-stop-number-requires
+stop-number-requires c κs = search needs
+
+enum-told-2 : tie.Need-enum-told-2
+enum-told-2 c = search needs
+
+returns : tie.Need-returns
+unfolding answerStop
+returns c = search needs
+
+returns-2 : tie.Need-returns-2
+unfolding answerStop
+returns-2 c = search needs
+
+returns-3 : tie.Need-returns-3
+unfolding answerStop
+returns-3 c = search needs
+
+pub answer-stop-spec : {M : Type 1} → statement M
+answer-stop-spec =
+    tie.close
+    (tie.spec
+    enum-told
+    enum-known-answer
+    stop-number-requires
+    enum-told-2
+    returns
+    returns-2
+    returns-3)

@@ -1,0 +1,81 @@
+// Lines on standard output.
+ghost use lib.ListN.{length};
+ghost use Prim.Native.Nat.{_≤_};
+use libc::STDOUT_FILENO;
+use rules::answers::Answer;
+use rules::answers::Call;
+use rules::record::Record;
+use transcript::lines;
+
+// Writes a name, the first n bytes of a buffer and a line's end.
+fn line(name: &[u8], out: &[u8], n: usize)
+    requires { ⌜ n ≤ length (now out) ⌝ }
+{
+    io::write_all(STDOUT_FILENO, name);
+    io::write_all(STDOUT_FILENO, &out[..n]);
+    io::write_all(STDOUT_FILENO, b"\n");
+}
+
+// Writes the name of a call.
+pub fn call(call: Call) {
+    match call {
+        Call::Load(_) => {
+            io::write_all(STDOUT_FILENO, b"load");
+        }
+        Call::Step(_) => {
+            io::write_all(STDOUT_FILENO, b"step");
+        }
+        Call::Run(_, _) => {
+            io::write_all(STDOUT_FILENO, b"run");
+        }
+    }
+}
+
+// Writes an answer, to end a line.
+pub fn answer(answer: Answer) {
+    let mut out = [0u8; 64];
+    let n = lines::put_answer(&mut out, answer);
+    line(b"", &out, n);
+}
+
+// Writes a record's state.
+pub fn state(of: Record) {
+    let mut out = [0u8; 4096];
+    let n = lines::put_state(&mut out, of);
+    line(b"state", &out, n);
+}
+
+// Writes an array for elements.
+fn elements(name: &[u8], values: &[u64; 128]) {
+    let mut out = [0u8; 4096];
+    let n = lines::put_elements(&mut out, 0, values);
+    line(name, &out, n);
+}
+
+// Writes an array for points.
+fn points(name: &[u8], values: &[u64; 64]) {
+    let mut out = [0u8; 2048];
+    let n = lines::put_points(&mut out, 0, values);
+    line(name, &out, n);
+}
+
+// Writes what no call changes of a record.
+pub fn site(of: Record) {
+    let mut out = [0u8; 256];
+    let n = lines::put_site(&mut out, of);
+    line(b"site", &out, n);
+    let solids = of.solids;
+    elements(b"solids", &solids);
+    let stress = of.compressibility_stress;
+    points(b"stress", &stress);
+    let void = of.compressibility_void;
+    points(b"void", &void);
+    let conductivity_void = of.conductivity_void;
+    points(b"conductivity_void", &conductivity_void);
+    let conductivity = of.conductivity;
+    points(b"conductivity", &conductivity);
+    let time = of.table_time;
+    points(b"time", &time);
+    let load = of.table_load;
+    points(b"load_at", &load);
+}

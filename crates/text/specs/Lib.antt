@@ -1,0 +1,4 @@
+-- Numbers as text.
+pub mod Text
+-- laws of text
+pub mod Laws

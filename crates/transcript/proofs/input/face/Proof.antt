@@ -1,0 +1,30 @@
+use borrow.Author.Needs.{needs}
+use borrow.Author.Tests.{eq-eqb, ne-eqb}
+use lib.IntN.{ℤ}
+use mathlib.Core.Path.{ap}
+use Rattle.numbers.specs.Signed.{readBack}
+use Rattle.rules.specs.Quantities.{pressure}
+use Rattle.rules.specs.declared.quantities.Face.the-variants.{Drained}
+use Rattle.transcript.specs.Input.{faceIn}
+use Rattle.transcript.proofs.input.face.Statement.{statement}
+use Rattle.transcript.proofs.input.face.Tie as tie
+
+returns : tie.Need-returns
+unfolding faceIn
+returns c = simp (eq-eqb (c .before .args .kind) 0 (c .if1 .taken), faceIn)
+
+signed-requires : tie.Need-signed-requires
+signed-requires c κs = search needs
+
+returns-2 : tie.Need-returns-2
+unfolding faceIn
+returns-2 c =
+    simp (
+      readBack {z = c .signed .result} (record { sfits = c .signed .ok }),
+      ne-eqb (c .before .before .args .kind) 0 (c .before .if1 .left),
+      faceIn,
+    )
+    (ap (λ (z : ℤ). Drained (pressure z)) (c .signed .ensures))
+
+pub face-spec : {M : Type 1} → statement M
+face-spec = tie.close (tie.spec returns signed-requires returns-2)

@@ -1,0 +1,81 @@
+-- Records and calls as the words of a file give them.
+use Prim.Native.Nat.{ℕ, _+_, _*_}
+use lib.Dec.{leb, eqb}
+use lib.ListN.{length}
+use mathlib.Core.Bool.{Bool, true, false, _&&_}
+use mathlib.Core.List.{List}
+use Rattle.numbers.specs.Arrays.{filled, zeros}
+use Rattle.rules.specs.Quantities.{head, pressure}
+use Rattle.rules.specs.declared.answers.Call.{Call}
+use Rattle.rules.specs.declared.answers.Call.the-variants.{Load, Step, Run}
+use Rattle.rules.specs.declared.quantities.Face.{Face}
+use Rattle.rules.specs.declared.quantities.Face.the-variants.{Closed, Drained}
+use Rattle.rules.specs.declared.record.Record.{Record}
+use Rattle.text.specs.Text.{wordAt, signedNumber}
+
+-- the call that three words say; any kind but load and step is a run
+unfoldable pub callIn : (kind a b : ℕ) → Call
+callIn kind a b = elim (eqb kind 0) [ true ↦ Load a | false ↦ elim (eqb kind 1) [ true ↦ Step a | false ↦ Run a b ] ]
+
+-- the face that two words say
+unfoldable pub faceIn : (kind held : ℕ) → Face
+unfolding signedNumber
+faceIn kind held = elim (eqb kind 0) [ true ↦ Closed | false ↦ Drained (pressure (signedNumber held)) ]
+
+-- one number of each pair of words, from a place on
+unfoldable pub pairAt : (body : List ℕ) (at i : ℕ) → ℕ
+unfolding wordAt
+pairAt body at i = wordAt body (at + 16 * i)
+
+-- of so many pairs, in an array
+unfoldable pub column : (size : ℕ) (body : List ℕ) (at count : ℕ) → List ℕ
+unfolding filled zeros pairAt
+column size body at count = filled (zeros size) count (pairAt body at)
+
+-- where the pairs of the curves and of the load table begin
+unfoldable pub firstCurveAt : List ℕ → ℕ
+unfolding wordAt
+firstCurveAt body = 160 + 16 * wordAt body 128
+
+unfoldable pub secondCurveAt : List ℕ → ℕ
+unfolding wordAt firstCurveAt
+secondCurveAt body = firstCurveAt body + 16 * wordAt body 136
+
+unfoldable pub tableAt : List ℕ → ℕ
+unfolding wordAt secondCurveAt
+tableAt body = secondCurveAt body + 16 * wordAt body 144
+
+-- bytes give a record: its twenty words, and as many pairs as they announce, which the arrays can hold
+unfoldable pub isRecord : List ℕ → Bool
+unfolding wordAt tableAt
+isRecord body =
+    leb 160 (length body) && leb (wordAt body 128) 128 && leb (wordAt body 136) 64 && leb (wordAt body 144) 64 &&
+    leb (wordAt body 152) 64 && eqb (length body) (tableAt body + 16 * wordAt body 152)
+
+-- the record
+unfoldable pub recordIn : List ℕ → Record
+unfolding wordAt signedNumber faceIn column firstCurveAt secondCurveAt tableAt
+recordIn body = record {
+  top = faceIn (wordAt body 40) (wordAt body 48);
+  bottom = faceIn (wordAt body 56) (wordAt body 64);
+  elements = wordAt body 0;
+  «compressibility_points» = wordAt body 8;
+  «conductivity_points» = wordAt body 16;
+  «table_points» = wordAt body 24;
+  gravity = wordAt body 32;
+  «top_level» = head (signedNumber (wordAt body 72));
+  «bottom_level» = head (signedNumber (wordAt body 80));
+  solids = column 128 body 160 (wordAt body 128);
+  water = column 128 body 168 (wordAt body 128);
+  «compressibility_stress» = column 64 body (firstCurveAt body) (wordAt body 136);
+  «compressibility_void» = column 64 body (firstCurveAt body + 8) (wordAt body 136);
+  «conductivity_void» = column 64 body (secondCurveAt body) (wordAt body 144);
+  conductivity = column 64 body (secondCurveAt body + 8) (wordAt body 144);
+  «table_time» = column 64 body (tableAt body) (wordAt body 152);
+  «table_load» = column 64 body (tableAt body + 8) (wordAt body 152);
+  load = pressure (signedNumber (wordAt body 88));
+  clock = record { 0 = wordAt body 96 };
+  «top_outflow» = signedNumber (wordAt body 104);
+  «bottom_outflow» = signedNumber (wordAt body 112);
+  «starting_water» = wordAt body 120;
+}

@@ -1,0 +1,3 @@
+-- Lists of calls as a file gives them, and their answers as text.
+pub mod Input
+pub mod Lines

@@ -1,0 +1,142 @@
+// Records and calls from the words of a file.
+ghost use lib.ListN.{length};
+ghost use mathlib.Core.Bool.{true};
+ghost use mathlib.Core.Path.{_≡_};
+ghost use Prim.Native.Nat.{ℕ, _+_, _*_, _≤_};
+ghost use Rattle.numbers.specs.Arrays.{filled};
+ghost use Rattle.transcript.specs.Input.{callIn, faceIn, pairAt, column, isRecord, recordIn};
+use rules::answers::Call;
+use rules::quantities::Clock;
+use rules::quantities::Face;
+use rules::quantities::Head;
+use rules::quantities::Pressure;
+use rules::record::Record;
+
+// The call that three words say.
+pub fn call(kind: u64, a: u64, b: u64) -> Call
+    ensures { λ r. ⌜ r ≡ callIn kind a b ⌝ }
+{
+    if kind == 0 {
+        return Call::Load(a);
+    }
+    if kind == 1 {
+        return Call::Step(a);
+    }
+    Call::Run(a, b)
+}
+
+// The face that two words say.
+fn face(kind: u64, held: u64) -> Face
+    ensures { λ r. ⌜ r ≡ faceIn kind held ⌝ }
+{
+    if kind == 0 {
+        return Face::Closed;
+    }
+    Face::Drained(Pressure(text::signed(held)))
+}
+
+// Stores one number of each of so many pairs that begin at a place.
+fn fill(body: &[u8], at: usize, count: usize, out: &mut [u64])
+    requires { ⌜ (count ≤ length (now out)) × (at + 16 * count ≤ length (now body) + 8) ⌝ }
+    ensures { λ _. ⌜ now (out .exit) ≡ filled (now (out .entry)) count (pairAt (now (body .entry)) at) ⌝ }
+{
+    let mut i: usize = 0;
+    while i < count {
+        out[i] = text::word(body, at + 16 * i);
+        i += 1;
+    }
+}
+
+// These numbers, in an array for the elements.
+fn column_128(body: &[u8], at: usize, count: usize) -> [u64; 128]
+    requires { ⌜ (count ≤ 128) × (at + 16 * count ≤ length (now body) + 8) ⌝ }
+    ensures { λ r. ⌜ r ≡ column 128 (now (body .entry)) at count ⌝ }
+{
+    let mut column = [0u64; 128];
+    fill(body, at, count, &mut column);
+    column
+}
+
+// These numbers, in an array for the points of a curve or a table.
+fn column_64(body: &[u8], at: usize, count: usize) -> [u64; 64]
+    requires { ⌜ (count ≤ 64) × (at + 16 * count ≤ length (now body) + 8) ⌝ }
+    ensures { λ r. ⌜ r ≡ column 64 (now (body .entry)) at count ⌝ }
+{
+    let mut column = [0u64; 64];
+    fill(body, at, count, &mut column);
+    column
+}
+
+// Whether bytes give a record.
+pub fn is_record(body: &[u8]) -> bool
+    ensures { λ r. ⌜ r ≡ isRecord (now (body .entry)) ⌝ }
+{
+    if body.len() < 160 {
+        return false;
+    }
+    let elements = text::word(body, 128);
+    let stress = text::word(body, 136);
+    let conductivity = text::word(body, 144);
+    let table = text::word(body, 152);
+    if elements > 128 {
+        return false;
+    }
+    if stress > 64 {
+        return false;
+    }
+    if conductivity > 64 {
+        return false;
+    }
+    if table > 64 {
+        return false;
+    }
+    body.len() == (160 + 16 * elements + 16 * stress + 16 * conductivity + 16 * table) as usize
+}
+
+// The record that bytes give.
+pub fn record(body: &[u8]) -> Record
+    requires { ⌜ isRecord (now body) ≡ true ⌝ }
+    ensures { λ r. ⌜ r ≡ recordIn (now (body .entry)) ⌝ }
+{
+    let elements = text::word(body, 128) as usize;
+    let first = text::word(body, 136) as usize;
+    let second = text::word(body, 144) as usize;
+    let table = text::word(body, 152) as usize;
+    let first_at = 160 + 16 * elements;
+    let second_at = first_at + 16 * first;
+    let table_at = second_at + 16 * second;
+    let top = face(text::word(body, 40), text::word(body, 48));
+    let bottom = face(text::word(body, 56), text::word(body, 64));
+    let solids = column_128(body, 160, elements);
+    let water = column_128(body, 168, elements);
+    let compressibility_stress = column_64(body, first_at, first);
+    let compressibility_void = column_64(body, first_at + 8, first);
+    let conductivity_void = column_64(body, second_at, second);
+    let conductivity = column_64(body, second_at + 8, second);
+    let table_time = column_64(body, table_at, table);
+    let table_load = column_64(body, table_at + 8, table);
+    Record {
+        top,
+        bottom,
+        elements: text::word(body, 0) as usize,
+        compressibility_points: text::word(body, 8) as usize,
+        conductivity_points: text::word(body, 16) as usize,
+        table_points: text::word(body, 24) as usize,
+        gravity: text::word(body, 32),
+        top_level: Head(text::signed(text::word(body, 72))),
+        bottom_level: Head(text::signed(text::word(body, 80))),
+        solids,
+        water,
+        compressibility_stress,
+        compressibility_void,
+        conductivity_void,
+        conductivity,
+        table_time,
+        table_load,
+        load: Pressure(text::signed(text::word(body, 88))),
+        clock: Clock(text::word(body, 96)),
+        top_outflow: text::signed(text::word(body, 104)),
+        bottom_outflow: text::signed(text::word(body, 112)),
+        starting_water: text::word(body, 120),
+    }
+}

@@ -1,0 +1,198 @@
+// Answers, states and sites as text.
+ghost use lib.IntN.{ℤ};
+ghost use lib.ListN.{length};
+ghost use mathlib.Core.Path.{_≡_};
+ghost use Prim.Native.Nat.{ℕ, _+_, _*_, _≤_};
+ghost use Rattle.rules.specs.Refusals.{refusalNumber};
+ghost use Rattle.rules.specs.Run.{stopNumber};
+ghost use Rattle.text.specs.Text.{Put};
+ghost use Rattle.transcript.specs.Lines.{answerText, columnText, amountsText, stateText, countsText, faceText, levelsText, siteText};
+use rules::answers::Answer;
+use rules::answers::Refusal;
+use rules::answers::Stop;
+use rules::quantities::Face;
+use rules::record::Record;
+
+// The paper's number of a refusal.
+fn refusal_number(cause: Refusal) -> u64
+    ensures { λ r. ⌜ r ≡ refusalNumber cause ⌝ }
+{
+    match cause {
+        Refusal::ShortOrUnmarked => 1,
+        Refusal::OtherVersion => 2,
+        Refusal::HeaderOutside => 3,
+        Refusal::WrongLength => 4,
+        Refusal::FieldOutside => 5,
+        Refusal::CompressibilityCurve => 6,
+        Refusal::ConductivityCurve => 7,
+        Refusal::LoadTable => 8,
+        Refusal::StartOffCurve => 9,
+        Refusal::ShortBuffer => 10,
+        Refusal::NoLayer => 11,
+        Refusal::LoadOutside => 12,
+        Refusal::StepOutside => 13,
+        Refusal::StepTooLong => 14,
+        Refusal::StepOffCurve => 15,
+        Refusal::RunOutside => 16,
+    }
+}
+
+// The paper's number of a stop.
+fn stop_number(stop: Stop) -> u64
+    ensures { λ r. ⌜ r ≡ stopNumber stop ⌝ }
+{
+    match stop {
+        Stop::AtEnd => 0,
+        Stop::BudgetUsed => 1,
+        Stop::NoStep => 2,
+        Stop::OffCurve => 3,
+    }
+}
+
+// Stores an answer at the start of a buffer, and gives its length.
+pub fn put_answer(out: &mut [u8], answer: Answer) -> usize
+    requires { ⌜ 63 ≤ length (now out) ⌝ }
+    ensures { λ r. ⌜ Put (answerText answer) (now (out .entry)) 0 (now (out .exit)) r ⌝ }
+    ensures { λ r. ⌜ r ≤ 63 ⌝ }
+{
+    match answer {
+        Answer::Done => text::put_number(out, 0, 0),
+        Answer::Ran(stop, steps) => {
+            let next = text::put_number(out, 0, 0);
+            let last = text::put_number(out, next, stop_number(stop));
+            text::put_number(out, last, steps)
+        }
+        Answer::Refused(cause) => text::put_number(out, 0, refusal_number(cause)),
+    }
+}
+
+// Stores a face, and gives the place after it.
+fn put_face(out: &mut [u8], at: usize, face: Face) -> usize
+    requires { ⌜ at + 43 ≤ length (now out) ⌝ }
+    ensures { λ r. ⌜ Put (faceText face) (now (out .entry)) at (now (out .exit)) r ⌝ }
+    ensures { λ r. ⌜ r ≤ at + 43 ⌝ }
+{
+    match face {
+        Face::Closed => {
+            let next = text::put_number(out, at, 0);
+            text::put_number(out, next, 0)
+        }
+        Face::Drained(held) => {
+            let next = text::put_number(out, at, 1);
+            text::put_signed_number(out, next, held.0)
+        }
+    }
+}
+
+// Stores an array without the zeros at its end, and gives the place after it.
+fn put_column(out: &mut [u8], at: usize, values: &[u64]) -> usize
+    requires { ⌜ at + 21 * length (now values) ≤ length (now out) ⌝ }
+    ensures { λ r. ⌜ Put (columnText (now (values .entry))) (now (out .entry)) at (now (out .exit)) r ⌝ }
+    ensures { λ r. ⌜ r ≤ at + 21 * length (now (values .entry)) ⌝ }
+{
+    text::put_row(out, at, values, text::used(values))
+}
+
+// Stores the numbers of an array for elements.
+pub fn put_elements(out: &mut [u8], at: usize, values: &[u64; 128]) -> usize
+    requires { ⌜ at + 2_688 ≤ length (now out) ⌝ }
+    ensures { λ r. ⌜ Put (columnText (now (values .entry))) (now (out .entry)) at (now (out .exit)) r ⌝ }
+    ensures { λ r. ⌜ r ≤ at + 2_688 ⌝ }
+{
+    put_column(out, at, values)
+}
+
+// Stores the numbers of an array for points.
+pub fn put_points(out: &mut [u8], at: usize, values: &[u64; 64]) -> usize
+    requires { ⌜ at + 1_344 ≤ length (now out) ⌝ }
+    ensures { λ r. ⌜ Put (columnText (now (values .entry))) (now (out .entry)) at (now (out .exit)) r ⌝ }
+    ensures { λ r. ⌜ r ≤ at + 1_344 ⌝ }
+{
+    put_column(out, at, values)
+}
+
+// Stores a load, a clock, both outflows and the starting water at the start of a buffer, and gives their length.
+fn put_amounts(out: &mut [u8], load: i64, clock: u64, top: i64, bottom: i64, start: u64) -> usize
+    requires { ⌜ 108 ≤ length (now out) ⌝ }
+    ensures { λ r. ⌜ Put (amountsText load clock top bottom start) (now (out .entry)) 0 (now (out .exit)) r ⌝ }
+    ensures { λ r. ⌜ r ≤ 108 ⌝ }
+{
+    let a = text::put_signed_number(out, 0, load);
+    let b = text::put_number(out, a, clock);
+    let c = text::put_signed_number(out, b, top);
+    let d = text::put_signed_number(out, c, bottom);
+    text::put_number(out, d, start)
+}
+
+// Stores a record's state at the start of a buffer, and gives its length.
+pub fn put_state(out: &mut [u8], of: Record) -> usize
+    requires { ⌜ 2_796 ≤ length (now out) ⌝ }
+    ensures { λ r. ⌜ Put (stateText of) (now (out .entry)) 0 (now (out .exit)) r ⌝ }
+    ensures { λ r. ⌜ r ≤ 2_796 ⌝ }
+{
+    let load = of.load;
+    let clock = of.clock;
+    let water = of.water;
+    let next = put_amounts(
+        out,
+        load.0,
+        clock.0,
+        of.top_outflow,
+        of.bottom_outflow,
+        of.starting_water,
+    );
+    put_elements(out, next, &water)
+}
+
+// Stores four counts and a gravity at the start of a buffer, and gives their length.
+fn put_counts(
+    out: &mut [u8],
+    elements: u64,
+    first: u64,
+    second: u64,
+    table: u64,
+    gravity: u64,
+) -> usize
+    requires { ⌜ 105 ≤ length (now out) ⌝ }
+    ensures { λ r. ⌜ Put (countsText elements first second table gravity) (now (out .entry)) 0 (now (out .exit)) r ⌝ }
+    ensures { λ r. ⌜ r ≤ 105 ⌝ }
+{
+    let a = text::put_number(out, 0, elements);
+    let b = text::put_number(out, a, first);
+    let c = text::put_number(out, b, second);
+    let d = text::put_number(out, c, table);
+    text::put_number(out, d, gravity)
+}
+
+// Stores two levels, and gives the place after them.
+fn put_levels(out: &mut [u8], at: usize, top: i64, bottom: i64) -> usize
+    requires { ⌜ at + 44 ≤ length (now out) ⌝ }
+    ensures { λ r. ⌜ Put (levelsText top bottom) (now (out .entry)) at (now (out .exit)) r ⌝ }
+    ensures { λ r. ⌜ r ≤ at + 44 ⌝ }
+{
+    let next = text::put_signed_number(out, at, top);
+    text::put_signed_number(out, next, bottom)
+}
+
+// Stores a record's counts, gravity, faces and levels at the start of a buffer, and gives their length.
+pub fn put_site(out: &mut [u8], of: Record) -> usize
+    requires { ⌜ 235 ≤ length (now out) ⌝ }
+    ensures { λ r. ⌜ Put (siteText of) (now (out .entry)) 0 (now (out .exit)) r ⌝ }
+    ensures { λ r. ⌜ r ≤ 235 ⌝ }
+{
+    let top = of.top;
+    let bottom = of.bottom;
+    let top_level = of.top_level;
+    let bottom_level = of.bottom_level;
+    let a = put_counts(
+        out,
+        of.elements as u64,
+        of.compressibility_points as u64,
+        of.conductivity_points as u64,
+        of.table_points as u64,
+        of.gravity,
+    );
+    let b = put_face(out, a, top);
+    let c = put_face(out, b, bottom);
+    put_levels(out, c, top_level.0, bottom_level.0)
+}
