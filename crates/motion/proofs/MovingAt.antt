@@ -1,29 +1,32 @@
 -- The flows of a layer and the water that they move, as arrays hold them.
 use Prim.Native.Nat.{ℕ, zero, suc, _-_, _≤_, _<_}
 use native.Mathlib.Omega.{arith}
+use lib.Dec.{T, ltb, ltb→lt, nltb→le}
 use lib.IntN.{ℤ, pos, negℤ, natAbs}
 use lib.ListN.{getD}
 use lib.Signed.{leZ, _≤ℤ_}
 use mathlib.Core.Bool.{Bool, true, false}
 use mathlib.Core.List.{List, [], _∷_, map}
-use mathlib.Core.Path.{_≡_, refl, sym, ap, _∙_}
+use mathlib.Core.Path.{_≡_, refl, sym, ap, subst, _∙_}
 use Rattle.element.proofs.FlowsAt.{outward-range, above-range}
 use Rattle.element.specs.Elements.{elementOf, Readable, flowAbove}
 use Rattle.laws.specs.Index.{last-at}
+use Rattle.laws.specs.OnCurve.{on-curve-parts}
 use Rattle.laws.specs.Outflow.{HeldWithin}
-use Rattle.layer.proofs.StepAt.{map-tabulate, upward-flows-in, moved-in, stays-in}
+use Rattle.layer.proofs.StepAt.{map-tabulate, upward-flows-in, moved-in, on-curve-in, stays-in}
 use Rattle.motion.specs.Moving.{flowsIn, movedBy, waterAfter, staysOn, Bounded}
 use Rattle.motion.specs.declared.Moved.the-variants.{Flows, Leaves}
 use Rattle.numbers.specs.Arrays.{tabulate, firstPlaces, overlaid, filled, everyIndex}
-use Rattle.numbers.specs.Filled.{length-tabulate, getD-tabulate, getD-filled}
+use Rattle.numbers.specs.Filled.{length-tabulate, getD-tabulate, getD-filled, getD-filled-past}
 use Rattle.numbers.specs.Indices.{every-at}
 use Rattle.numbers.specs.Interval.{within-neg}
 use Rattle.numbers.specs.Lists.{firstOr, lastOr}
-use Rattle.numbers.specs.Searches.{passed, both}
+use Rattle.numbers.specs.Searches.{passed, both, same-test, by-test}
 use Rattle.numbers.specs.Signed.{signed}
-use Rattle.rules.specs.Curve.{Point}
+use Rattle.rules.specs.Curve.{Point, isOn}
+use Rattle.rules.specs.Layer.{effectiveStress}
 use Rattle.rules.specs.Quantities.{stepLimits, waterLimits}
-use Rattle.rules.specs.Step.{outward, moved, allOnCurve}
+use Rattle.rules.specs.Step.{outward, moved, onCurve, allOnCurve}
 use Rattle.rules.specs.declared.quantities.Face.{Face}
 use Rattle.water.specs.Water.{newWater, staysAt, Movable}
 
@@ -133,3 +136,27 @@ module _ (n : ℕ) (some-element : 0 < n) (top bottom : Face) (t : ℕ) (excess 
       above-within = λ j h. rw (above-at j h) (above-range top held t short n excess resistance (readable .excess-within) j h);
       water-most = few;
     }
+
+    module _ (curve : List Point) (solids : List ℕ) (j : ℕ) where
+      -- the element is on the curve with so much water
+      abbrev on : ℕ → Bool
+      on W = isOn (effectiveStress curve (getD solids j 0) W)
+
+      new-on : T (staysOn curve n solids flows water) → j < n → T (on (natAbs (newWater lowest above water j)))
+      new-on t h =
+          let all-on = ap (λ (l : List ℤ). allOnCurve curve (firstPlaces n solids) l) new-is ∙ on-curve-in curve n solids (newWater lowest above water) in
+          on-curve-parts curve (getD solids j 0) (newWater lowest above water j)
+          (every-at n (λ i. onCurve curve (getD solids i 0) (newWater lowest above water i)) (subst T all-on t) j h) .1
+
+      -- a step leaves it on the curve if it was on it
+      pub kept : on (getD water j 0) ≡ true → on (getD (waterAfter (staysOn curve n solids flows water) flows n water) j 0) ≡ true
+      unfolding waterAfter
+      kept was =
+          by-test (staysOn curve n solids flows water) (λ stays. on (getD (waterAfter stays flows n water) j 0) ≡ true)
+          (λ t.
+          rw (← water-is)
+          (by-test (ltb j n) (λ _. on (getD (filled water n (λ i. natAbs (newWater lowest above water i))) j 0) ≡ true)
+          (λ below. let h = ltb→lt j n below in
+          rw (getD-filled water n (λ i. natAbs (newWater lowest above water i)) j 0 h) (same-test _ true (λ _. tt) (λ _. new-on t h)))
+          (λ past. rw (getD-filled-past water n (λ i. natAbs (newWater lowest above water i)) j 0 (nltb→le j n past)) was)))
+          (λ _. was)

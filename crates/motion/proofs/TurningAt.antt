@@ -16,13 +16,14 @@ use Rattle.laws.specs.VoidRatio.{sensitivity-pos}
 use Rattle.layer.proofs.ReadAt.{water-most}
 use Rattle.layer.proofs.StepAt.{flows-in, upward-flows-in, contacts-in, elements-in}
 use Rattle.layer.specs.Soil.{Soil, OnSoil, excessAt, resistanceAt}
+use Rattle.motion.proofs.MovingAt.{kept}
 use Rattle.motion.specs.Moving.{flowsIn, movedBy, staysOn, waterAfter}
 use Rattle.motion.specs.declared.Moved.{Moved}
 use Rattle.motion.specs.declared.Moved.the-variants.{Flows, Leaves}
 use Rattle.motion.specs.Turning.{longestUpTo, turnedBy, waterTurned, flowsTurned, Worked, Shows}
-use Rattle.numbers.specs.Arrays.{firstPlaces, overlaid, filled}
+use Rattle.numbers.specs.Arrays.{tabulate, firstPlaces, overlaid, filled}
 use Rattle.numbers.specs.Division.{ceil-le}
-use Rattle.numbers.specs.Filled.{getD-filled, first-length, first-at}
+use Rattle.numbers.specs.Filled.{length-tabulate, overlaid-overlaid, length-filled, getD-filled, first-length, first-at}
 use Rattle.numbers.specs.Lists.{any, firstOr, lastOr, greatest}
 use Rattle.numbers.specs.Searches.{passed}
 use Rattle.reach.specs.Reach.{Limited, isTooLong, longestWithin}
@@ -58,6 +59,18 @@ module _ (top bottom : Face) (t n : ℕ) {excess excess′ : List ℤ} {resistan
 
   pub above-as : (above : List ℤ) → filled above n (flowAbove top t n excess′ resistance′) ≡ filled above n (flowAbove top t n excess resistance)
   above-as above = rw (p, q) refl
+
+-- an array filled is as long as it was, and what it held where it is filled again does not matter
+pub as-long : {A : Type 0} (array : List A) {array′ : List A} (n : ℕ) (f : ℕ → A) → array′ ≡ filled array n f → n ≤ 128 → length array ≡ 128 →
+    length array′ ≡ 128
+as-long {A = A} array n f e few long = ap (λ (l : List A). length l) e ∙ length-filled array n f (rw long few) ∙ long
+
+pub refilled : {A : Type 0} (array : List A) {array′ : List A} (m n : ℕ) (f g : ℕ → A) → array′ ≡ filled array m f → m ≤ n →
+    filled array′ n g ≡ filled array n g
+unfolding filled
+refilled {A = A} array m n f g e few =
+    ap (λ (l : List A). filled l n g) e ∙
+    overlaid-overlaid (tabulate n g) (tabulate m f) array (rw (length-tabulate n g, length-tabulate m f) few)
 
 -- what a step gave tells whether it stays on the curve
 pub leaves-off : (stays : Bool) (flows : List ℤ) → Leaves ≡ movedBy stays flows → stays ≡ false
@@ -115,6 +128,18 @@ module _ (n : ℕ) (some-element : 0 < n) (m : ℕ) (void stress : List ℕ) (k 
         (on j h .load-between) (on j h .burden-most));
     resistance-positive = λ j h. rw (resistance-at j h) (resists j h .positive);
     resistance-most = λ j h. rw (resistance-at j h) (resists j h .most);
+  }
+
+  -- a step of some of the elements leaves every element on the soil
+  pub on-after : (count : ℕ) → 0 < count → (top bottom : Face) (t : ℕ) (p : List ℤ) (r : List ℕ) {water′ : List ℕ} →
+      water′ ≡ waterAfter (staysOn first count solids (flowsIn top bottom t count p r) water) (flowsIn top bottom t count p r) count water →
+      (j : ℕ) → j < n → OnSoil m void stress load (getD burden j 0) (getD solids j 0) (getD water′ j 0)
+  on-after count some top bottom t p r e j h = record {
+    load-between = on j h .load-between;
+    burden-most = on j h .burden-most;
+    solids-positive = on j h .solids-positive;
+    solids-most = on j h .solids-most;
+    on-curve = rw e (kept count some top bottom t p r [] water first solids j (on j h .on-curve));
   }
 
   pub waters-most : (j : ℕ) → j < n → getD water j 0 ≤ 1_000_000_000
