@@ -12,8 +12,8 @@ use Rattle.numbers.specs.Integers.{signedField}
 use Rattle.numbers.specs.Rounding.{floor}
 use Rattle.numbers.specs.Sums.{sum}
 use Rattle.rules.specs.Quantities.{head, pressureOf}
-use Rattle.rules.specs.Curve.{valueOf}
-use Rattle.rules.specs.Layer.{Site, height, voidRatio, effectiveStress, burdens, excessPressure}
+use Rattle.rules.specs.Curve.{Point, valueOf}
+use Rattle.rules.specs.Layer.{height, voidRatio, effectiveStress, burdens, excessPressure}
 use Rattle.rules.specs.Record.{recordSite, recordState, isLayer}
 use Rattle.rules.specs.Refusals.{_if_, firstCause, refusalNumber}
 use Rattle.rules.specs.Run.{stopNumber}
@@ -27,30 +27,39 @@ use Rattle.rules.specs.declared.record.Record.{Record}
 unfoldable pub nodeHeight : (below S W : ℕ) → ℕ
 nodeHeight below S W = below + floor (height S W) 2
 
--- the pore pressure at an element's node
-unfoldable pub porePressure : Site → (load : ℤ) (below B S W : ℕ) → ℤ
-unfolding excessPressure pressureOf nodeHeight
-porePressure site load below B S W =
-    excessPressure site.compressibility load B S W +ℤ (pressureOf (head (site.topLevel -ℤ pos (nodeHeight below S W)))) .0
+-- the pore pressure at a node: the excess and that of the water's head over it
+unfoldable pub poreOver : (excess topLevel : ℤ) (z : ℕ) → ℤ
+unfolding pressureOf
+poreOver excess topLevel z = excess +ℤ (pressureOf (head (topLevel -ℤ pos z))) .0
+
+-- that of an element
+unfoldable pub porePressure : (compressibility : List Point) (topLevel load : ℤ) (below B S W : ℕ) → ℤ
+unfolding poreOver excessPressure nodeHeight
+porePressure compressibility topLevel load below B S W =
+    poreOver (excessPressure compressibility load B S W) topLevel (nodeHeight below S W)
 
 abbrev pub word : ℕ → List ℕ
 word n = bytes 8 n
 
--- W, E, effective stress, total stress and pore pressure of an element
-unfoldable pub elementBytes : Site → (load : ℤ) (below B S W : ℕ) → List ℕ
-unfolding voidRatio effectiveStress valueOf porePressure bytes
-elementBytes site load below B S W =
-    let effective = valueOf (effectiveStress site.compressibility S W) in
-    let pore = porePressure site load below B S W in
-    word W ++ word (voidRatio S W) ++ word effective ++ word (signedField (pore +ℤ pos effective)) ++ word (signedField pore)
+abbrev pub signedWord : ℤ → List ℕ
+signedWord z = word (signedField z)
 
-unfoldable pub elementsBytes : Site → (load : ℤ) (below : ℕ) (Bs Ss Ws : List ℕ) → List ℕ
+-- W, E, effective stress, total stress and pore pressure of an element
+unfoldable pub elementBytes : (compressibility : List Point) (topLevel load : ℤ) (below B S W : ℕ) → List ℕ
+unfolding voidRatio effectiveStress valueOf porePressure bytes
+elementBytes compressibility topLevel load below B S W =
+    let effective = valueOf (effectiveStress compressibility S W) in
+    let pore = porePressure compressibility topLevel load below B S W in
+    word W ++ word (voidRatio S W) ++ word effective ++ signedWord (pore +ℤ pos effective) ++ signedWord pore
+
+unfoldable pub elementsBytes : (compressibility : List Point) (topLevel load : ℤ) (below : ℕ) (Bs Ss Ws : List ℕ) → List ℕ
 unfolding elementBytes
-elementsBytes site load below [] Ss Ws = []
-elementsBytes site load below (B ∷ Bs) [] Ws = []
-elementsBytes site load below (B ∷ Bs) (S ∷ Ss) [] = []
-elementsBytes site load below (B ∷ Bs) (S ∷ Ss) (W ∷ Ws) =
-    elementBytes site load below B S W ++ elementsBytes site load (below + height S W) Bs Ss Ws
+elementsBytes compressibility topLevel load below [] Ss Ws = []
+elementsBytes compressibility topLevel load below (B ∷ Bs) [] Ws = []
+elementsBytes compressibility topLevel load below (B ∷ Bs) (S ∷ Ss) [] = []
+elementsBytes compressibility topLevel load below (B ∷ Bs) (S ∷ Ss) (W ∷ Ws) =
+    elementBytes compressibility topLevel load below B S W ++
+    elementsBytes compressibility topLevel load (below + height S W) Bs Ss Ws
 
 -- the starting height less the present one
 unfoldable pub settlement : Record → ℤ
@@ -59,16 +68,23 @@ settlement r =
     let solids = (recordSite r) .solids in
     pos (sum solids + r .«starting_water») -ℤ pos (layerHeight solids (recordState r))
 
+-- mark, version, stop, number of elements, a zero, clock, steps, load, both outflows and settlement
+unfoldable pub resultHead : Record → Stop → (steps : ℕ) → List ℕ
+unfolding bytes stopNumber settlement recordState
+resultHead r stop steps =
+    let s = recordState r in
+    (76 ∷ 83 ∷ 82 ∷ []) ++ bytes 2 1 ++ bytes 1 (stopNumber stop) ++ bytes 1 r.elements ++ bytes 1 0 ++
+    word (s .clock) ++ word steps ++ signedWord (s .load) ++ signedWord (s .topOutflow) ++ signedWord (s .bottomOutflow) ++
+    signedWord (settlement r)
+
 -- the result of a record, a run's stop and its number of steps
 unfoldable pub resultBytes : Record → Stop → (steps : ℕ) → List ℕ
-unfolding bytes stopNumber settlement recordSite recordState elementsBytes burdens
+unfolding resultHead recordSite recordState elementsBytes burdens
 resultBytes r stop steps =
     let site = recordSite r in
     let s = recordState r in
-    (76 ∷ 83 ∷ 82 ∷ []) ++ bytes 2 1 ++ bytes 1 (stopNumber stop) ++ bytes 1 r.elements ++ bytes 1 0 ++
-    word (s .clock) ++ word steps ++ word (signedField (s .load)) ++ word (signedField (s .topOutflow)) ++
-    word (signedField (s .bottomOutflow)) ++ word (signedField (settlement r)) ++
-    elementsBytes site (s .load) 0 (burdens (site .gravity) (site .solids)) (site .solids) (s .water)
+    resultHead r stop steps ++
+    elementsBytes (site .compressibility) (site .topLevel) (s .load) 0 (burdens (site .gravity) (site .solids)) (site .solids) (s .water)
 
 -- the length of a result of so many elements
 unfoldable pub resultSize : (elements : ℕ) → ℕ

@@ -3,51 +3,11 @@ ghost use lib.IntN.{ℤ};
 ghost use lib.ListN.{length};
 ghost use mathlib.Core.Path.{_≡_};
 ghost use Prim.Native.Nat.{ℕ, _+_, _*_, _≤_};
-ghost use Rattle.rules.specs.Refusals.{refusalNumber};
-ghost use Rattle.rules.specs.Run.{stopNumber};
 ghost use Rattle.text.specs.Text.{Put};
 ghost use Rattle.transcript.specs.Lines.{answerText, columnText, amountsText, stateText, countsText, faceText, levelsText, siteText};
 use rules::answers::Answer;
-use rules::answers::Refusal;
-use rules::answers::Stop;
 use rules::quantities::Face;
 use rules::record::Record;
-
-// The paper's number of a refusal.
-fn refusal_number(cause: Refusal) -> u64
-    ensures { λ r. ⌜ r ≡ refusalNumber cause ⌝ }
-{
-    match cause {
-        Refusal::ShortOrUnmarked => 1,
-        Refusal::OtherVersion => 2,
-        Refusal::HeaderOutside => 3,
-        Refusal::WrongLength => 4,
-        Refusal::FieldOutside => 5,
-        Refusal::CompressibilityCurve => 6,
-        Refusal::ConductivityCurve => 7,
-        Refusal::LoadTable => 8,
-        Refusal::StartOffCurve => 9,
-        Refusal::ShortBuffer => 10,
-        Refusal::NoLayer => 11,
-        Refusal::LoadOutside => 12,
-        Refusal::StepOutside => 13,
-        Refusal::StepTooLong => 14,
-        Refusal::StepOffCurve => 15,
-        Refusal::RunOutside => 16,
-    }
-}
-
-// The paper's number of a stop.
-fn stop_number(stop: Stop) -> u64
-    ensures { λ r. ⌜ r ≡ stopNumber stop ⌝ }
-{
-    match stop {
-        Stop::AtEnd => 0,
-        Stop::BudgetUsed => 1,
-        Stop::NoStep => 2,
-        Stop::OffCurve => 3,
-    }
-}
 
 // Stores an answer at the start of a buffer, and gives its length.
 pub fn put_answer(out: &mut [u8], answer: Answer) -> usize
@@ -59,10 +19,10 @@ pub fn put_answer(out: &mut [u8], answer: Answer) -> usize
         Answer::Done => text::put_number(out, 0, 0),
         Answer::Ran(stop, steps) => {
             let next = text::put_number(out, 0, 0);
-            let last = text::put_number(out, next, stop_number(stop));
+            let last = text::put_number(out, next, answers::stop_number(stop));
             text::put_number(out, last, steps)
         }
-        Answer::Refused(cause) => text::put_number(out, 0, refusal_number(cause)),
+        Answer::Refused(cause) => text::put_number(out, 0, answers::refusal_number(cause)),
     }
 }
 

@@ -1,7 +1,7 @@
 use Rattle.rules.specs.Refusals.{refusalNumber}
 use borrow.Author.Needs.{needs}
-use Rattle.transcript.proofs.lines.refusal_number.Statement.{statement}
-use Rattle.transcript.proofs.lines.refusal_number.Tie as tie
+use Rattle.answers.proofs.refusal_number.Statement.{statement}
+use Rattle.answers.proofs.refusal_number.Tie as tie
 
 enum-told : tie.Need-enum-told
 enum-told c = search needs

@@ -1,7 +1,7 @@
 use borrow.Author.Needs.{needs}
 use Rattle.rules.specs.Outcome.{answerNumber}
-use Rattle.replay.proofs.words.answer_number.Statement.{statement}
-use Rattle.replay.proofs.words.answer_number.Tie as tie
+use Rattle.answers.proofs.answer_number.Statement.{statement}
+use Rattle.answers.proofs.answer_number.Tie as tie
 
 enum-told : tie.Need-enum-told
 enum-told c = search needs

@@ -1,7 +1,7 @@
 use Rattle.rules.specs.Run.{stopNumber}
 use borrow.Author.Needs.{needs}
-use Rattle.transcript.proofs.lines.stop_number.Statement.{statement}
-use Rattle.transcript.proofs.lines.stop_number.Tie as tie
+use Rattle.answers.proofs.stop_number.Statement.{statement}
+use Rattle.answers.proofs.stop_number.Tie as tie
 
 enum-told : tie.Need-enum-told
 enum-told c = search needs
