@@ -32,7 +32,7 @@ use Rattle.rules.specs.declared.quantities.Face.the-variants.{Closed}
 use Rattle.rules.specs.declared.record.Record.{Record}
 
 -- the height of a layer is that of its solids and its water
-height-parts : (Ss Ws : List ℕ) → length Ws ≡ length Ss → sum (paired height Ss Ws) ≡ sum Ss + sum Ws
+pub height-parts : (Ss Ws : List ℕ) → length Ws ≡ length Ss → sum (paired height Ss Ws) ≡ sum Ss + sum Ws
 unfolding sum paired
 height-parts [] [] n = refl
 height-parts [] (W ∷ Ws) n = absurd (omega arith)

@@ -34,7 +34,7 @@ use Rattle.rules.specs.declared.record.Record.{Record}
 use Rattle.rules.proofs.Limits.{inside, inside-signed, within-parts}
 use Rattle.rules.proofs.Sound.{falls-down}
 use Rattle.sound.specs.SiteFacts.{site-by, bottom-within}
-use Rattle.sound.specs.Sizes.{signed-between}
+use Rattle.holdings.specs.Sizes.{signed-between}
 use Rattle.sound.specs.StateFacts.{state-by}
 
 -- the tests of a layer that no call changes

@@ -4,6 +4,7 @@ use native.Mathlib.Omega.{arith}
 use lib.IntN.{pos, _+ℤ_, +ℤ-idr}
 use lib.ListN.{length}
 use mathlib.Core.List.{List}
+use mathlib.Core.Logic.{_⊎_, inl, inr}
 use mathlib.Core.Option.{Option, none, some}
 use mathlib.Core.Path.{_≡_, refl, sym, _∙_}
 use Rattle.claims.specs.Accepted.{LoadKept}
@@ -29,6 +30,25 @@ use Rattle.rules.specs.declared.answers.Answered.{Answered}
 use Rattle.rules.specs.declared.answers.Refusal.{Refusal}
 use Rattle.rules.specs.declared.answers.Refusal.the-variants.{StartOffCurve}
 use Rattle.rules.specs.declared.job.Description.{Description}
+
+-- opening refuses a job and leaves the blank record, or is done
+pub opening-either : (job : List ℕ) →
+    ((cause : Refusal) × (opening job ≡ refusedOpening cause)) ⊎ ((opening job) .answer ≡ Done)
+unfolding opening
+opening-either job = found (firstCause (jobCauses job)) (descriptionWater (described job))
+  where
+    found : (first : Option Refusal) (water : Option (List ℕ)) →
+        let a : Answered = elim first as (λ _. Answered) [
+          | some cause ↦ refusedOpening cause
+          | none ↦ elim water as (λ _. Answered) [
+            | none ↦ refusedOpening StartOffCurve
+            | some water ↦ record { answer = Done; after = openedRecord (described job) water }
+          ]
+        ] in
+        ((cause : Refusal) × (a ≡ refusedOpening cause)) ⊎ (a .answer ≡ Done)
+    found (some cause) water = inl (cause, refl)
+    found none none = inl (StartOffCurve, refl)
+    found none (some water) = inr refl
 
 -- what opening found in a job that it accepts
 pub record Opened (job : List ℕ) : Type 0 where

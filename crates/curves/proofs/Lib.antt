@@ -1,4 +1,3 @@
--- Laws of reading a curve by index, and of what a curve covers.
+-- Laws of reading a curve by index.
 pub mod Segments
-pub mod Covers
 pub mod SmoothCurves

@@ -1,3 +1,2 @@
 -- What the contracts of curves cite beside the rules.
-pub mod Checks
 pub mod Smooth

@@ -1,4 +1,3 @@
-// Both curves and the load table as points: their checks, their steepness, and reading them.
-pub mod checks;
+// Both curves: their steepness, and reading them.
 pub mod reading;
 pub mod steep;

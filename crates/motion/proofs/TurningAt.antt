@@ -8,7 +8,7 @@ use mathlib.Core.Bool.{Bool, true, false, not}
 use mathlib.Core.List.{List, [], map}
 use mathlib.Core.Path.{_≡_, refl, sym, ap, subst, _∙_}
 use Rattle.element.specs.Elements.{elementsIn, Readable, flowAbove}
-use Rattle.curves.proofs.Covers.{ends}
+use Rattle.points.proofs.Covers.{ends}
 use Rattle.laws.specs.Bounds.{lowest-most, highest-most}
 use Rattle.laws.specs.Excess as Excess
 use Rattle.laws.specs.Steep.{steep-positive, steep-most}

@@ -17,7 +17,7 @@ use Rattle.rules.specs.Record.{sizesSound, closedAtZero, recordSite}
 use Rattle.rules.specs.declared.job.Description.{Description}
 use Rattle.rules.specs.declared.quantities.Pressure.{Pressure}
 use Rattle.rules.specs.declared.quantities.Face.the-variants.{Closed, Drained}
-use Rattle.sound.specs.Sizes.{SoundSizes, sound-sizes}
+use Rattle.holdings.specs.Sizes.{SoundSizes, sound-sizes}
 
 -- a number within 0 and 0 is 0
 within-zero : (n : ℕ) → within (from 0 to 0) n ≡ eqb n 0

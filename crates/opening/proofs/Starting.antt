@@ -33,7 +33,7 @@ use Rattle.rules.specs.Record.{recordSite}
 use Rattle.rules.specs.Start.{openingLoad, restingFrom}
 use Rattle.rules.specs.Step.{allOnCurve}
 use Rattle.rules.specs.declared.job.Description.{Description}
-use Rattle.sound.specs.Sizes.{SoundSizes}
+use Rattle.holdings.specs.Sizes.{SoundSizes}
 use Rattle.start.proofs.Opened.{burdens-in, given-start, resting-start, resting-array}
 use Rattle.start.specs.Rest.{allOrNone, restingHeights}
 use Rattle.table.proofs.Laws.{tabled}

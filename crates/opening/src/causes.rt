@@ -4,7 +4,7 @@ ghost use mathlib.Core.Path.{_≡_};
 ghost use Rattle.opening.specs.Causes.{describedAnswer};
 ghost use Rattle.rules.specs.Job.{headerKept};
 use crate::fields;
-use curves::checks;
+use points::checks;
 use rules::answers::Refusal;
 use rules::job::Description;
 

@@ -2,13 +2,13 @@
 ghost use mathlib.Core.Bool.{true};
 ghost use mathlib.Core.Path.{_≡_};
 ghost use Rattle.rules.specs.Job.{fieldsSound, headerKept};
+use holdings::sizes;
 use rules::job::Description;
 use rules::quantities::Budget;
 use rules::quantities::Clock;
 use rules::quantities::Head;
 use rules::quantities::Solids;
 use rules::quantities::Water;
-use sound::sizes;
 
 // Whether levels, end, budget, solids and water keep their limits, and fields that must be 0 are.
 pub fn fields_sound(d: Description) -> bool

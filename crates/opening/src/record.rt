@@ -7,14 +7,14 @@ ghost use Rattle.opening.specs.Causes.{describedAnswer};
 ghost use Rattle.opening.specs.declared.causes.Checked.the-variants.{Sound};
 ghost use Rattle.rules.specs.Job.{headerKept, numberedFace};
 ghost use Rattle.rules.specs.Opening.{blankRecord, descriptionWater, openedRecord};
+use holdings::balance;
+use holdings::faces;
 use rules::job::Description;
 use rules::quantities::Clock;
 use rules::quantities::Face;
 use rules::quantities::Head;
 use rules::quantities::Pressure;
 use rules::record::Record;
-use sound::balance;
-use sound::faces;
 
 // A record that is no layer.
 pub fn blank() -> Record

@@ -4,25 +4,22 @@ use native.Mathlib.Omega.{arith}
 use lib.ListN.{length}
 use lib.Seq.{sets}
 use mathlib.Core.List.{List, [], _∷_, _++_}
-use mathlib.Core.Logic.{_⊎_, inl, inr, ⊎-elim}
-use mathlib.Core.Option.{Option, none, some}
+use mathlib.Core.Logic.{⊎-elim}
 use mathlib.Core.Path.{_≡_, refl, ap, _∙_}
+use Rattle.claims.specs.Opened.{opening-either}
 use Rattle.numbers.specs.Arrays.{tabulate, overlaid}
 use Rattle.numbers.specs.Filled.{length-tabulate}
 use Rattle.replay.specs.Replaying.{replayOn, writtenOn, replayOpened, replaying}
 use Rattle.replay.specs.WordLaws.{tabulate-more, sets-overlaid, words-more, words-length}
 use Rattle.replay.specs.Words.{callAt, callCount, callsIn, answerWords, allWords}
 use Rattle.rules.specs.Calls.{called, replayed}
-use Rattle.rules.specs.Job.{described, jobCauses}
-use Rattle.rules.specs.Opening.{openedRecord, refusedOpening, descriptionWater, opening}
+use Rattle.rules.specs.Opening.{refusedOpening, opening}
 use Rattle.rules.specs.Outcome.{refusalOf}
-use Rattle.rules.specs.Refusals.{firstCause}
 use Rattle.rules.specs.declared.answers.Answer.{Answer}
 use Rattle.rules.specs.declared.answers.Answer.the-variants.{Done, Ran, Refused}
 use Rattle.rules.specs.declared.answers.Answered.{Answered}
 use Rattle.rules.specs.declared.answers.Call.{Call}
 use Rattle.rules.specs.declared.answers.Refusal.{Refusal}
-use Rattle.rules.specs.declared.answers.Refusal.the-variants.{StartOffCurve}
 use Rattle.rules.specs.declared.answers.Stop.{Stop}
 use Rattle.rules.specs.declared.record.Record.{Record}
 
@@ -82,25 +79,6 @@ module _ (r : Record) (words slice : List ℕ) (i : ℕ) (layer : Record) (out :
   replays-all e = (rw (← e) (h .left), rw (← e) (h .written))
 
 -- ---- by what opening answered
-
--- opening refuses a job and leaves the blank record, or is done
-opening-either : (job : List ℕ) →
-    ((cause : Refusal) × (opening job ≡ refusedOpening cause)) ⊎ ((opening job) .answer ≡ Done)
-unfolding opening
-opening-either job = found (firstCause (jobCauses job)) (descriptionWater (described job))
-  where
-    found : (first : Option Refusal) (water : Option (List ℕ)) →
-        let a : Answered = elim first as (λ _. Answered) [
-          | some cause ↦ refusedOpening cause
-          | none ↦ elim water as (λ _. Answered) [
-            | none ↦ refusedOpening StartOffCurve
-            | some water ↦ record { answer = Done; after = openedRecord (described job) water }
-          ]
-        ] in
-        ((cause : Refusal) × (a ≡ refusedOpening cause)) ⊎ (a .answer ≡ Done)
-    found (some cause) water = inl (cause, refl)
-    found none none = inl (StartOffCurve, refl)
-    found none (some water) = inr refl
 
 replay-refused : (words slice : List ℕ) (cause : Refusal) →
     (refusedOpening cause ≡ (replayOpened (refusedOpening cause) words slice) .given) ×

@@ -44,13 +44,23 @@ word n = bytes 8 n
 abbrev pub signedWord : ℤ → List ℕ
 signedWord z = word (signedField z)
 
--- W, E, effective stress, total stress and pore pressure of an element
+-- mark, version, stop, number of elements, a zero, clock, steps, load, both outflows and settlement
+unfoldable pub headBytes : Stop → (elements clock steps : ℕ) (load topOutflow bottomOutflow settlement : ℤ) → List ℕ
+unfolding bytes stopNumber
+headBytes stop elements clock steps load topOutflow bottomOutflow settlement =
+    (76 ∷ 83 ∷ 82 ∷ []) ++ bytes 2 1 ++ bytes 1 (stopNumber stop) ++ bytes 1 elements ++ bytes 1 0 ++
+    word clock ++ word steps ++ signedWord load ++ signedWord topOutflow ++ signedWord bottomOutflow ++ signedWord settlement
+
+-- W, E, effective stress, total stress and pore pressure
+unfoldable pub elementWords : (W E effective : ℕ) (pore : ℤ) → List ℕ
+unfolding bytes
+elementWords W E effective pore = word W ++ word E ++ word effective ++ signedWord (pore +ℤ pos effective) ++ signedWord pore
+
+-- those of an element
 unfoldable pub elementBytes : (compressibility : List Point) (topLevel load : ℤ) (below B S W : ℕ) → List ℕ
-unfolding voidRatio effectiveStress valueOf porePressure bytes
+unfolding elementWords voidRatio effectiveStress valueOf porePressure
 elementBytes compressibility topLevel load below B S W =
-    let effective = valueOf (effectiveStress compressibility S W) in
-    let pore = porePressure compressibility topLevel load below B S W in
-    word W ++ word (voidRatio S W) ++ word effective ++ signedWord (pore +ℤ pos effective) ++ signedWord pore
+    elementWords W (voidRatio S W) (valueOf (effectiveStress compressibility S W)) (porePressure compressibility topLevel load below B S W)
 
 unfoldable pub elementsBytes : (compressibility : List Point) (topLevel load : ℤ) (below : ℕ) (Bs Ss Ws : List ℕ) → List ℕ
 unfolding elementBytes
@@ -68,14 +78,12 @@ settlement r =
     let solids = (recordSite r) .solids in
     pos (sum solids + r .«starting_water») -ℤ pos (layerHeight solids (recordState r))
 
--- mark, version, stop, number of elements, a zero, clock, steps, load, both outflows and settlement
+-- the fields of a record's result before its elements
 unfoldable pub resultHead : Record → Stop → (steps : ℕ) → List ℕ
-unfolding bytes stopNumber settlement recordState
+unfolding headBytes settlement recordState
 resultHead r stop steps =
     let s = recordState r in
-    (76 ∷ 83 ∷ 82 ∷ []) ++ bytes 2 1 ++ bytes 1 (stopNumber stop) ++ bytes 1 r.elements ++ bytes 1 0 ++
-    word (s .clock) ++ word steps ++ signedWord (s .load) ++ signedWord (s .topOutflow) ++ signedWord (s .bottomOutflow) ++
-    signedWord (settlement r)
+    headBytes stop r.elements (s .clock) steps (s .load) (s .topOutflow) (s .bottomOutflow) (settlement r)
 
 -- the result of a record, a run's stop and its number of steps
 unfoldable pub resultBytes : Record → Stop → (steps : ℕ) → List ℕ

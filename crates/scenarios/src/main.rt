@@ -2,86 +2,117 @@
 mod print;
 
 ghost use lib.ListN.{length as ListN·length};
-ghost use Prim.Native.Nat.{_≤_};
+ghost use Prim.Native.Nat.{_≤_, _*_};
 ghost use mathlib.Core.Path.{_≡_};
-ghost use Rattle.rules.specs.Calls.{called};
-use calls::load;
-use calls::step;
+ghost use Rattle.numbers.specs.Arrays.{filled};
+ghost use Rattle.transcript.specs.Input.{isBody, wordOf};
 use libc::STDOUT_FILENO;
-use rules::answers::Answered;
-use rules::answers::Call;
 use rules::record::Record;
 use transcript::input;
 
-// Makes a call on a record.
-fn called(before: Record, call: Call) -> Answered
-    ensures { λ r. ⌜ r ≡ called before call ⌝ }
+// Replays the calls of a list on its record, one more each time, and prints what the last one answers and leaves.
+fn answer_record(first: Record, calls: &[u64])
+    requires { ⌜ ListN·length (now calls) ≤ 96 ⌝ }
 {
-    match call {
-        Call::Load(load) => load::set_load(before, load),
-        Call::Step(seconds) => step::take_step(before, seconds),
-        Call::Run(end, budget) => run::take_run(before, end, budget),
-    }
-}
-
-// Reads a call, makes it on a record and prints what it answers and leaves.
-fn answer_call(fd: i32, before: Record) -> Record {
-    let mut words = [0u8; 24];
-    io::read_full(fd, &mut words);
-    let call = input::call(
-        text::word(&words, 0),
-        text::word(&words, 8),
-        text::word(&words, 16),
-    );
-    print::call(call);
-    let answered = called(before, call);
-    let answer = answered.answer;
-    let after = answered.after;
-    print::answer(answer);
-    print::state(after);
-    after
-}
-
-// Makes the calls that follow in a file on a record, and prints its site after them.
-fn answer_calls(fd: i32, first: Record, calls: u64) {
     print::state(first);
-    let mut record = first;
-    let mut made: u64 = 0;
-    while made < calls {
-        record = answer_call(fd, record);
-        made += 1;
+    let mut words = [0u64; 96];
+    let mut after = first;
+    let mut end: usize = 3;
+    while end <= calls.len() {
+        after = replay::replay_calls(first, &calls[..end], &mut words[..end]);
+        print::answer(
+            calls[end - 3],
+            words[end - 3],
+            words[end - 2],
+            words[end - 1],
+        );
+        print::state(after);
+        end += 3;
     }
-    print::site(record);
+    print::site(after);
 }
 
-// Answers a list, of which the file goes on with the calls; false where a body is no record.
-fn answer_list(fd: i32, number: u64, kind: u64, body: &[u8], calls: u64) -> bool {
+// Replays the calls of a list from its job, which opens to the record, one more each time, and prints the same.
+fn answer_accepted(job: &[u8], first: Record, calls: &[u64])
+    requires { ⌜ ListN·length (now calls) ≤ 96 ⌝ }
+{
+    print::state(first);
+    let mut words = [0u64; 96];
+    let mut after = first;
+    let mut end: usize = 3;
+    while end <= calls.len() {
+        let replayed = replay::replay(job, &calls[..end], &mut words[..end]);
+        let last = replayed.after;
+        after = last;
+        print::answer(
+            calls[end - 3],
+            words[end - 3],
+            words[end - 2],
+            words[end - 1],
+        );
+        print::state(after);
+        end += 3;
+    }
+    print::site(after);
+}
+
+// Answers a list from a job. The calls of a refused job are made on the record that the refusal gives.
+fn answer_job(job: &[u8], calls: &[u64])
+    requires { ⌜ ListN·length (now calls) ≤ 96 ⌝ }
+{
+    let mut words = [0u64; 1];
+    let opened = replay::replay(job, &calls[..0], &mut words[..0]);
+    let answer = opened.answer;
+    let record = opened.after;
+    let refusal = answers::answer_number(answer);
+    print::opened(refusal);
+    if refusal == 0 {
+        answer_accepted(job, record, calls);
+    } else {
+        answer_record(record, calls);
+    }
+}
+
+// Answers a list; false where a body is no record.
+fn answer_list(number: u64, kind: u64, body: &[u8], calls: &[u64]) -> bool
+    requires { ⌜ ListN·length (now calls) ≤ 96 ⌝ }
+    ensures { λ r. ⌜ r ≡ isBody kind (now (body .entry)) ⌝ }
+{
     io::write_all(STDOUT_FILENO, b"list ");
     io::print_decimal(STDOUT_FILENO, number);
     if kind == 0 {
-        io::write_all(STDOUT_FILENO, b"\nopened");
-        let opened = opening::open(body);
-        let answer = opened.answer;
-        let record = opened.after;
-        print::answer(answer);
-        answer_calls(fd, record, calls);
+        answer_job(body, calls);
         return true;
     }
     if input::is_record(body) {
         io::write_all(STDOUT_FILENO, b"\nrecord\n");
         let record = input::record(body);
-        answer_calls(fd, record, calls);
+        answer_record(record, calls);
         return true;
     }
     false
 }
 
-// Reads a list's body into a buffer, and answers the list.
-fn read_list(fd: i32, number: u64, kind: u64, length: usize, body: &mut [u8], calls: u64) -> bool
-    requires { ⌜ length ≤ ListN·length (now body) ⌝ }
+// Reads so many calls through a buffer of bytes, and stores their words at the start of another.
+fn read_calls(fd: i32, count: usize, bytes: &mut [u8], words: &mut [u64])
+    requires { ⌜ (24 * count ≤ ListN·length (now bytes)) × (3 * count ≤ ListN·length (now words)) ⌝ }
+    ensures { λ _. ⌜ now (words .exit) ≡ filled (now (words .entry)) (3 * count) (wordOf (now (bytes .exit))) ⌝ }
+{
+    let size = 24 * count;
+    io::read_full(fd, &mut bytes[..size]);
+    input::words(bytes, 3 * count, words);
+}
+
+// Reads a list's body into a buffer and its calls, and answers the list.
+fn read_list(fd: i32, number: u64, kind: u64, length: usize, body: &mut [u8], count: usize) -> bool
+    requires { ⌜ (length ≤ ListN·length (now body)) × (count ≤ 32) ⌝ }
 {
     let got = io::read_full(fd, &mut body[..length]);
-    answer_list(fd, number, kind, &body[..got], calls)
+    let mut bytes = [0u8; 768];
+    let mut words = [0u64; 96];
+    read_calls(fd, count, &mut bytes, &mut words);
+    let end = 3 * count;
+    answer_list(number, kind, &body[..got], &words[..end])
 }
 
 // Answers the next list of a file; false where it is not of the right form.
@@ -90,12 +121,15 @@ fn next_list(fd: i32, number: u64) -> bool {
     io::read_full(fd, &mut head);
     let kind = text::word(&head, 0);
     let length = text::word(&head, 8) as usize;
-    let calls = text::word(&head, 16);
+    let count = text::word(&head, 16) as usize;
     if length > 8_192 {
         return false;
     }
+    if count > 32 {
+        return false;
+    }
     let mut body = [0u8; 8192];
-    read_list(fd, number, kind, length, &mut body, calls)
+    read_list(fd, number, kind, length, &mut body, count)
 }
 
 // Answers every list of a file.

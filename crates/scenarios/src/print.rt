@@ -2,8 +2,6 @@
 ghost use lib.ListN.{length};
 ghost use Prim.Native.Nat.{_≤_};
 use libc::STDOUT_FILENO;
-use rules::answers::Answer;
-use rules::answers::Call;
 use rules::record::Record;
 use transcript::lines;
 
@@ -16,26 +14,34 @@ fn line(name: &[u8], out: &[u8], n: usize)
     io::write_all(STDOUT_FILENO, b"\n");
 }
 
-// Writes the name of a call.
-pub fn call(call: Call) {
-    match call {
-        Call::Load(_) => {
+// Writes the name of a call of a kind.
+fn name(kind: u64) {
+    match kind {
+        0 => {
             io::write_all(STDOUT_FILENO, b"load");
         }
-        Call::Step(_) => {
+        1 => {
             io::write_all(STDOUT_FILENO, b"step");
         }
-        Call::Run(_, _) => {
+        _ => {
             io::write_all(STDOUT_FILENO, b"run");
         }
     }
 }
 
-// Writes an answer, to end a line.
-pub fn answer(answer: Answer) {
+// Writes the answer of a call of a kind, by its words.
+pub fn answer(kind: u64, number: u64, stop: u64, steps: u64) {
+    name(kind);
     let mut out = [0u8; 64];
-    let n = lines::put_answer(&mut out, answer);
+    let n = lines::put_answer(&mut out, kind, number, stop, steps);
     line(b"", &out, n);
+}
+
+// Ends a line and writes the refusal number of a job.
+pub fn opened(refusal: u64) {
+    let mut out = [0u8; 32];
+    let n = text::put_number(&mut out, 0, refusal);
+    line(b"\nopened", &out, n);
 }
 
 // Writes a record's state.

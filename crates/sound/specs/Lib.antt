@@ -1,4 +1,3 @@
 -- What a sound site and a sound state say of a record.
-pub mod Sizes
 pub mod SiteFacts
 pub mod StateFacts

@@ -21,7 +21,7 @@ use Rattle.rules.specs.declared.quantities.Face.{Face}
 use Rattle.rules.specs.declared.quantities.Face.the-variants.{Closed, Drained}
 use Rattle.rules.specs.declared.quantities.Pressure.{Pressure}
 use Rattle.rules.specs.declared.record.Record.{Record}
-use Rattle.sound.specs.Sizes.{SoundSizes, sound-sizes}
+use Rattle.holdings.specs.Sizes.{SoundSizes, sound-sizes}
 
 -- the parts of a sound site
 pub record SiteParts (r : Record) : Type 0 where

@@ -16,7 +16,7 @@ use Rattle.rules.specs.Quantities.{within, withinℤ, stressLimits, clockLimits
 use Rattle.rules.specs.Record.{recordSite, recordState, outflowSound, stateSound}
 use Rattle.rules.specs.Step.{allOnCurve}
 use Rattle.rules.specs.declared.record.Record.{Record}
-use Rattle.sound.specs.Sizes.{signed-between}
+use Rattle.holdings.specs.Sizes.{signed-between}
 
 -- a sound state by the tests of its parts
 pub state-by : (r : Record) {a b c d e f g : Bool} →

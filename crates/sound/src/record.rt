@@ -2,11 +2,11 @@
 ghost use mathlib.Core.Bool.{true};
 ghost use mathlib.Core.Path.{_≡_};
 ghost use Rattle.rules.specs.Record.{siteSound, stateSound, isLayer};
-use crate::balance;
-use crate::faces;
-use crate::sizes;
-use curves::checks;
+use holdings::balance;
+use holdings::faces;
+use holdings::sizes;
 use job::header;
+use points::checks;
 use rules::quantities::Clock;
 use rules::quantities::StartingWater;
 use rules::record::Record;

@@ -20,8 +20,8 @@ use Rattle.rules.specs.Load.{firstPoint, tableSound, loadAt, nextTime}
 use Rattle.rules.specs.Quantities.{within, clockLimits, stressLimits}
 use Rattle.rules.proofs.Limits.{within-parts}
 use Rattle.rules.proofs.Points.{from-point, from-segment, from-end, from-last, all-at, neighbours-at}
-use Rattle.curves.specs.Checks.{pointKept, trendKept}
-use Rattle.curves.specs.declared.checks.Trend.the-variants.{Later}
+use Rattle.points.specs.Checks.{pointKept, trendKept}
+use Rattle.points.specs.declared.checks.Trend.the-variants.{Later}
 
 -- what a sound table says of its points
 pub record Tabled (n : ℕ) (time load : List ℕ) : Type 0 where

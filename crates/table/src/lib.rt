@@ -10,9 +10,9 @@ ghost use Rattle.numbers.specs.Rounding.{cut};
 ghost use Rattle.rules.specs.Curve.{points};
 ghost use Rattle.rules.specs.Load.{tableSound, loadAt, nextTime};
 ghost use Rattle.rules.specs.Quantities.{stressLimits, clockLimits};
-use curves::checks;
-use curves::checks::Range;
-use curves::checks::Trend;
+use points::checks;
+use points::checks::Range;
+use points::checks::Trend;
 use rules::quantities::Clock;
 use rules::quantities::Pressure;
 

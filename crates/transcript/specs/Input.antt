@@ -1,4 +1,4 @@
--- Records and calls as the words of a file give them.
+-- Records and words as the bytes of a file give them.
 use Prim.Native.Nat.{ℕ, _+_, _*_}
 use lib.Dec.{leb, eqb}
 use lib.ListN.{length}
@@ -6,21 +6,20 @@ use mathlib.Core.Bool.{Bool, true, false, _&&_}
 use mathlib.Core.List.{List}
 use Rattle.numbers.specs.Arrays.{filled, zeros}
 use Rattle.rules.specs.Quantities.{head, pressure}
-use Rattle.rules.specs.declared.answers.Call.{Call}
-use Rattle.rules.specs.declared.answers.Call.the-variants.{Load, Step, Run}
 use Rattle.rules.specs.declared.quantities.Face.{Face}
 use Rattle.rules.specs.declared.quantities.Face.the-variants.{Closed, Drained}
 use Rattle.rules.specs.declared.record.Record.{Record}
 use Rattle.text.specs.Text.{wordAt, signedNumber}
 
--- the call that three words say; any kind but load and step is a run
-unfoldable pub callIn : (kind a b : ℕ) → Call
-callIn kind a b = elim (eqb kind 0) [ true ↦ Load a | false ↦ elim (eqb kind 1) [ true ↦ Step a | false ↦ Run a b ] ]
-
 -- the face that two words say
 unfoldable pub faceIn : (kind held : ℕ) → Face
 unfolding signedNumber
 faceIn kind held = elim (eqb kind 0) [ true ↦ Closed | false ↦ Drained (pressure (signedNumber held)) ]
+
+-- word i of bytes
+unfoldable pub wordOf : (bytes : List ℕ) (i : ℕ) → ℕ
+unfolding wordAt
+wordOf bytes i = wordAt bytes (8 * i)
 
 -- one number of each pair of words, from a place on
 unfoldable pub pairAt : (body : List ℕ) (at i : ℕ) → ℕ
@@ -51,6 +50,11 @@ unfolding wordAt tableAt
 isRecord body =
     leb 160 (length body) && leb (wordAt body 128) 128 && leb (wordAt body 136) 64 && leb (wordAt body 144) 64 &&
     leb (wordAt body 152) 64 && eqb (length body) (tableAt body + 16 * wordAt body 152)
+
+-- a list's body is of its kind: 0 a job, any bytes; any other a record
+unfoldable pub isBody : (kind : ℕ) (body : List ℕ) → Bool
+unfolding isRecord
+isBody kind body = elim (eqb kind 0) [ true ↦ true | false ↦ isRecord body ]
 
 -- the record
 unfoldable pub recordIn : List ℕ → Record

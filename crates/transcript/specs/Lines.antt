@@ -1,22 +1,22 @@
 -- Answers, states and sites as text: numbers, each after a space.
 use Prim.Native.Nat.{ℕ}
+use lib.Dec.{ltb, eqb}
 use lib.IntN.{ℤ}
+use mathlib.Core.Bool.{true, false}
 use mathlib.Core.List.{List, _++_}
-use Rattle.rules.specs.Refusals.{refusalNumber}
-use Rattle.rules.specs.Run.{stopNumber}
-use Rattle.rules.specs.declared.answers.Answer.{Answer}
-use Rattle.rules.specs.declared.answers.Answer.the-variants.{Done, Ran, Refused}
 use Rattle.rules.specs.declared.quantities.Face.{Face}
 use Rattle.rules.specs.declared.quantities.Face.the-variants.{Closed, Drained}
 use Rattle.rules.specs.declared.record.Record.{Record}
 use Rattle.text.specs.Text.{spaced, signedSpaced, row, trimmed}
 
--- the refusal number, or 0; of a run its stop and its steps too
-unfoldable pub answerText : Answer → List ℕ
-unfolding spaced refusalNumber stopNumber
-answerText Done = spaced 0
-answerText (Ran stop steps) = spaced 0 ++ spaced (stopNumber stop) ++ spaced steps
-answerText (Refused cause) = spaced (refusalNumber cause)
+-- the refusal number, or 0; of a run that is not refused its stop and its steps too. Kind 0 is a load, 1 a step, any other a run
+unfoldable pub answerText : (kind number stop steps : ℕ) → List ℕ
+unfolding spaced
+answerText kind number stop steps =
+    elim (eqb number 0) [
+      | true ↦ elim (ltb kind 2) [ true ↦ spaced number | false ↦ spaced number ++ spaced stop ++ spaced steps ]
+      | false ↦ spaced number
+    ]
 
 -- an array, without the zeros at its end
 unfoldable pub columnText : List ℕ → List ℕ

@@ -1,29 +1,15 @@
-// Records and calls from the words of a file.
+// Records and words from the bytes of a file.
 ghost use lib.ListN.{length};
 ghost use mathlib.Core.Bool.{true};
 ghost use mathlib.Core.Path.{_≡_};
 ghost use Prim.Native.Nat.{ℕ, _+_, _*_, _≤_};
 ghost use Rattle.numbers.specs.Arrays.{filled};
-ghost use Rattle.transcript.specs.Input.{callIn, faceIn, pairAt, column, isRecord, recordIn};
-use rules::answers::Call;
+ghost use Rattle.transcript.specs.Input.{faceIn, wordOf, pairAt, column, isRecord, recordIn};
 use rules::quantities::Clock;
 use rules::quantities::Face;
 use rules::quantities::Head;
 use rules::quantities::Pressure;
 use rules::record::Record;
-
-// The call that three words say.
-pub fn call(kind: u64, a: u64, b: u64) -> Call
-    ensures { λ r. ⌜ r ≡ callIn kind a b ⌝ }
-{
-    if kind == 0 {
-        return Call::Load(a);
-    }
-    if kind == 1 {
-        return Call::Step(a);
-    }
-    Call::Run(a, b)
-}
 
 // The face that two words say.
 fn face(kind: u64, held: u64) -> Face
@@ -33,6 +19,18 @@ fn face(kind: u64, held: u64) -> Face
         return Face::Closed;
     }
     Face::Drained(Pressure(text::signed(held)))
+}
+
+// Stores so many words of bytes at the start of a buffer.
+pub fn words(bytes: &[u8], count: usize, out: &mut [u64])
+    requires { ⌜ (count ≤ length (now out)) × (8 * count ≤ length (now bytes)) ⌝ }
+    ensures { λ _. ⌜ now (out .exit) ≡ filled (now (out .entry)) count (wordOf (now (bytes .entry))) ⌝ }
+{
+    let mut i: usize = 0;
+    while i < count {
+        out[i] = text::word(bytes, 8 * i);
+        i += 1;
+    }
 }
 
 // Stores one number of each of so many pairs that begin at a place.

@@ -5,25 +5,24 @@ ghost use mathlib.Core.Path.{_≡_};
 ghost use Prim.Native.Nat.{ℕ, _+_, _*_, _≤_};
 ghost use Rattle.text.specs.Text.{Put};
 ghost use Rattle.transcript.specs.Lines.{answerText, columnText, amountsText, stateText, countsText, faceText, levelsText, siteText};
-use rules::answers::Answer;
 use rules::quantities::Face;
 use rules::record::Record;
 
-// Stores an answer at the start of a buffer, and gives its length.
-pub fn put_answer(out: &mut [u8], answer: Answer) -> usize
+// Stores an answer's words at the start of a buffer as its call prints them, and gives their length.
+pub fn put_answer(out: &mut [u8], kind: u64, number: u64, stop: u64, steps: u64) -> usize
     requires { ⌜ 63 ≤ length (now out) ⌝ }
-    ensures { λ r. ⌜ Put (answerText answer) (now (out .entry)) 0 (now (out .exit)) r ⌝ }
+    ensures { λ r. ⌜ Put (answerText kind number stop steps) (now (out .entry)) 0 (now (out .exit)) r ⌝ }
     ensures { λ r. ⌜ r ≤ 63 ⌝ }
 {
-    match answer {
-        Answer::Done => text::put_number(out, 0, 0),
-        Answer::Ran(stop, steps) => {
-            let next = text::put_number(out, 0, 0);
-            let last = text::put_number(out, next, answers::stop_number(stop));
-            text::put_number(out, last, steps)
-        }
-        Answer::Refused(cause) => text::put_number(out, 0, answers::refusal_number(cause)),
+    let next = text::put_number(out, 0, number);
+    if number != 0 {
+        return next;
     }
+    if kind < 2 {
+        return next;
+    }
+    let last = text::put_number(out, next, stop);
+    text::put_number(out, last, steps)
 }
 
 // Stores a face, and gives the place after it.

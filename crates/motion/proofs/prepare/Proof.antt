@@ -2,7 +2,7 @@ use Prim.Native.Nat.{ℕ}
 use native.Mathlib.Omega.{arith}
 use lib.ListN.{getD}
 use mathlib.Core.Path.{sym, ap, _∙_}
-use Rattle.curves.proofs.Covers.{ends}
+use Rattle.points.proofs.Covers.{ends}
 use Rattle.laws.specs.Bounds.{lowestWater, highestWater}
 use Rattle.numbers.specs.Arrays.{filled}
 use Rattle.rules.proofs.Sound.{compressible}

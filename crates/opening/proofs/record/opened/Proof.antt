@@ -16,7 +16,7 @@ use Rattle.rules.specs.Job.{numberedFace}
 use Rattle.rules.specs.Layer.{topPressure, bottomPressure}
 use Rattle.rules.specs.declared.job.Description.{Description}
 use Rattle.rules.specs.declared.quantities.Pressure.{Pressure}
-use Rattle.sound.specs.Sizes.{SoundSizes}
+use Rattle.holdings.specs.Sizes.{SoundSizes}
 use Rattle.opening.proofs.record.opened.Statement.{statement}
 use Rattle.opening.proofs.record.opened.Tie as tie
 

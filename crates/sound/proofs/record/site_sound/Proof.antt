@@ -10,7 +10,7 @@ use Rattle.numbers.specs.Signed.{readBack}
 use Rattle.rules.specs.Curve.{compressibilitySound, conductivitySound}
 use Rattle.rules.specs.Layer.{topPressure, bottomPressure}
 use Rattle.rules.specs.Load.{tableSound}
-use Rattle.sound.specs.Sizes.{SoundSizes, sound-sizes}
+use Rattle.holdings.specs.Sizes.{SoundSizes, sound-sizes}
 use borrow.Author.Needs.{needs}
 use Rattle.sound.proofs.record.site_sound.Statement.{statement}
 use Rattle.sound.proofs.record.site_sound.Tie as tie

@@ -1,0 +1,2 @@
+-- Laws of runs of stores.
+pub mod Stores

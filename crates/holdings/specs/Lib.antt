@@ -1,0 +1,2 @@
+-- What sound sizes say.
+pub mod Sizes

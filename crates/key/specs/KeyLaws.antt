@@ -1,0 +1,143 @@
+-- The key by what opening answers, and by the room for a result.
+use Prim.Native.Nat.{ℕ, _≤_, _<_}
+use native.Mathlib.Omega.{arith}
+use lib.Dec.{ltb, nltb→le}
+use lib.ListN.{length}
+use mathlib.Core.Bool.{true, not, _&&_}
+use mathlib.Core.List.{List}
+use mathlib.Core.Logic.{⊎-elim}
+use mathlib.Core.Option.{Option, none, some}
+use mathlib.Core.Path.{_≡_, refl, ap, _∙_}
+use Rattle.claims.specs.Causes.{neither, none-holds}
+use Rattle.claims.specs.Described.{described-sound}
+use Rattle.claims.specs.Opened.{opening-either, opened, opened-record}
+use Rattle.claims.specs.Stands.{stands-layer}
+use Rattle.key.specs.Layers.{called-layer, called-elements}
+use Rattle.laws.specs.Every.{Every}
+use Rattle.numbers.specs.Arrays.{overlaid}
+use Rattle.numbers.specs.Searches.{passed, both}
+use Rattle.result.specs.ResultLaws.{refused-for-room, not-refused, result-written}
+use Rattle.rules.proofs.Limits.{within-parts}
+use Rattle.rules.specs.Calls.{called}
+use Rattle.rules.specs.Job.{described, jobSite, givenWater, fieldsSound, headerLength, marked, jobCauses}
+use Rattle.rules.specs.Key.{resultOf, runToResult, key}
+use Rattle.rules.specs.Layer.{State}
+use Rattle.rules.specs.Opening.{openedRecord, refusedOpening, descriptionWater, opening}
+use Rattle.rules.specs.Outcome.{refusalOf}
+use Rattle.rules.specs.Quantities.{within, clockLimits, budgetLimits}
+use Rattle.rules.specs.Record.{recordState, sizesSound, isLayer}
+use Rattle.rules.specs.Refusals.{firstCause}
+use Rattle.rules.specs.Result.{Returned, withheld, resultBytes, resultSize, resultRefusal}
+use Rattle.rules.specs.Start.{openingState}
+use Rattle.rules.specs.declared.answers.Answer.{Answer}
+use Rattle.rules.specs.declared.answers.Answer.the-variants.{Done, Ran, Refused}
+use Rattle.rules.specs.declared.answers.Answered.{Answered}
+use Rattle.rules.specs.declared.answers.Call.the-variants.{Run}
+use Rattle.rules.specs.declared.answers.Refusal.{Refusal}
+use Rattle.rules.specs.declared.answers.Refusal.the-variants.{StartOffCurve, ShortBuffer}
+use Rattle.rules.specs.declared.answers.Stop.{Stop}
+use Rattle.rules.specs.declared.record.Record.{Record}
+
+-- ---- the room for a layer's result
+
+module _ (r : Record) (end budget : ℕ) (buffer : List ℕ) (is : isLayer r ≡ true) where
+  abbrev run : Answered
+  run = called r (Run end budget)
+
+  by-refusal : (cause : Option Refusal) → resultRefusal r (length buffer) ≡ cause →
+      runToResult r end budget buffer ≡ elim cause [ some cause ↦ withheld cause buffer | none ↦ resultOf (run .answer) (run .after) buffer ]
+  unfolding runToResult
+  by-refusal cause e =
+      ap (λ (c : Option Refusal). elim c as (λ _. Returned) [
+        | some x ↦ withheld x buffer
+        | none ↦ resultOf (run .answer) (run .after) buffer
+      ]) e
+
+  -- too little room: the buffer is left
+  pub no-room : length buffer < resultSize r.elements → runToResult r end budget buffer ≡ withheld ShortBuffer buffer
+  no-room h = by-refusal (some ShortBuffer) (refused-for-room r (length buffer) is h)
+
+  -- room enough: what the run answers decides
+  module _ (room : resultSize r.elements ≤ length buffer) (a : Answered) (runs : a ≡ run) where
+    pub by-run : (answer : Answer) → a .answer ≡ answer → runToResult r end budget buffer ≡ resultOf answer (a .after) buffer
+    by-run answer e = by-refusal none (not-refused r (length buffer) is room) ∙ rw (← runs, e) refl
+
+    -- the record after it has a result, for which there is room
+    pub ran-layer : isLayer (a .after) ≡ true
+    ran-layer = rw runs (called-layer r is (Run end budget))
+
+    pub ran-room : resultSize (a .after .elements) ≤ length buffer
+    ran-room = rw (runs, called-elements r is (Run end budget)) room
+
+    pub ran-written : (stop : Stop) (steps : ℕ) → a .answer ≡ Ran stop steps →
+        runToResult r end budget buffer ≡ record { number = 0; buffer = overlaid (resultBytes (a .after) stop steps) buffer }
+    unfolding resultOf
+    ran-written stop steps e = by-run (Ran stop steps) e ∙ result-written (a .after) stop steps buffer ran-layer ran-room
+
+-- ---- what opening answers
+
+-- opening is done where it does not refuse
+pub opening-done : (job : List ℕ) → ((cause : Refusal) → (opening job) .answer ≡ Refused cause → ⊥) → (opening job) .answer ≡ Done
+unfolding refusedOpening
+opening-done job not = ⊎-elim (λ refused. absurd (not (refused .0) (ap (λ (a : Answered). a .answer) (refused .1)))) (λ done. done) (opening-either job)
+
+module _ (job buffer : List ℕ) where
+  by-answer : (answer : Answer) → (opening job) .answer ≡ answer →
+      key job buffer ≡ elim (refusalOf answer) [
+        | some cause ↦ withheld cause buffer
+        | none ↦ runToResult ((opening job) .after) ((described job) .end) ((described job) .budget) buffer
+      ]
+  unfolding key
+  by-answer answer e =
+      ap (λ (a : Answer). elim (refusalOf a) as (λ _. Returned) [
+        | some cause ↦ withheld cause buffer
+        | none ↦ runToResult ((opening job) .after) ((described job) .end) ((described job) .budget) buffer
+      ]) e
+
+  -- a refused job
+  pub key-refused : (cause : Refusal) → (opening job) .answer ≡ Refused cause → key job buffer ≡ withheld cause buffer
+  unfolding refusalOf
+  key-refused cause e = by-answer (Refused cause) e
+
+-- ---- a job that opening accepts
+
+module _ (job : List ℕ) (done : (opening job) .answer ≡ Done) where
+  -- it has a whole header
+  pub header-whole : headerLength ≤ length job
+  unfolding jobCauses Every
+  header-whole =
+      let short = ltb (length job) headerLength in
+      nltb→le (length job) headerLength (neither short (not (marked job)) (none-holds (jobCauses job) (opened job done .no-cause) .0) .0)
+
+  -- its record is a layer whose clock is 0
+  opened-layer : isLayer ((opening job) .after) ≡ true
+  opened-layer = stands-layer _ _ _ _ (opened-record job done)
+
+  opened-clock : (opening job) .after .clock .0 ≡ 0
+  unfolding recordState openingState
+  opened-clock = ap (λ (s : State). s .clock) (opened-record job done .state-is)
+
+  -- its end and budget keep their limits
+  pub end-and-budget : ((described job) .end ≤ clockLimits .most) × ((described job) .budget ≤ budgetLimits .most)
+  unfolding fieldsSound
+  end-and-budget =
+      let d = described job in
+      let sizes = sizesSound (jobSite d) (givenWater d) in
+      let end = within clockLimits (d .end) in
+      let budget = within budgetLimits (d .budget) in
+      let (first3, _) = both (sizes && end && budget) _ (passed (described-sound job (opened job done .no-cause) .fields)) in
+      let (first2, few) = both (sizes && end) budget first3 in
+      let (_, short) = both sizes end first2 in
+      (within-parts clockLimits (d .end) short .1, within-parts budgetLimits (d .budget) few .1)
+
+  module _ (o : Answered) (opens : o ≡ opening job) (end budget : ℕ) where
+    -- it can be run within limits
+    pub can-run : end ≤ clockLimits .most → budget ≤ budgetLimits .most →
+        (isLayer (o .after) ≡ true) × ((o .after .clock .0 ≤ end) × (end ≤ clockLimits .most) × (budget ≤ budgetLimits .most))
+    can-run short few = rw opens (opened-layer, (rw opened-clock (omega arith), short, few))
+
+    -- its key is the result of a run to its end within its budget
+    pub key-run : end ≡ (described job) .end → budget ≡ (described job) .budget →
+        (buffer : List ℕ) → key job buffer ≡ runToResult (o .after) end budget buffer
+    unfolding refusalOf
+    key-run e k buffer = rw (opens, e, k) (by-answer job buffer Done done)

@@ -1,0 +1,4 @@
+-- What the key does with a job that opening accepts, and the specimen's key.
+pub mod Layers
+pub mod KeyLaws
+pub mod Specimen

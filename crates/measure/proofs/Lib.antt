@@ -1,2 +1,0 @@
--- Laws of a state's words.
-pub mod Words

@@ -1,2 +1,0 @@
--- What a measured run gives.
-pub mod Measured

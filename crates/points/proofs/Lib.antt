@@ -1,0 +1,2 @@
+-- Laws of what a curve covers.
+pub mod Covers

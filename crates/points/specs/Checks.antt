@@ -1,0 +1,21 @@
+-- The tests of a curve's points, one point and one segment at a time.
+use lib.Dec.{leb, ltb}
+use mathlib.Core.Bool.{Bool, _&&_}
+use Rattle.rules.specs.Curve.{Point}
+use Rattle.rules.specs.Quantities.{Limits, within, from_to_}
+use Rattle.points.specs.declared.checks.Range.{Range}
+use Rattle.points.specs.declared.checks.Trend.{Trend}
+use Rattle.points.specs.declared.checks.Trend.the-variants.{Falls, Rises, Later}
+
+abbrev pub limitsOf : Range → Limits
+limitsOf r = from r .least to r .most
+
+-- a point whose abscissa and ordinate keep the limits of their kinds
+abbrev pub pointKept : (abscissa ordinate : Limits) → Point → Bool
+pointKept abscissa ordinate p = within abscissa (p .abscissa) && within ordinate (p .ordinate)
+
+-- a segment of the compressibility curve, of the conductivity curve, and of the load table
+unfoldable pub trendKept : Trend → Point → Point → Bool
+trendKept Falls a b = ltb (a .ordinate) (b .ordinate) && ltb (b .abscissa) (a .abscissa)
+trendKept Rises a b = ltb (a .abscissa) (b .abscissa) && leb (a .ordinate) (b .ordinate)
+trendKept Later a b = ltb (a .abscissa) (b .abscissa)

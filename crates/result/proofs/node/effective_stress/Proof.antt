@@ -1,0 +1,26 @@
+use mathlib.Core.Path.{ap, _∙_}
+use Rattle.curves.proofs.SmoothCurves.{compressibility-smooth}
+use Rattle.rules.specs.Curve.{points, curveAt, valueOf}
+use Rattle.rules.specs.Layer.{effectiveStress}
+use borrow.Author.Needs.{needs}
+use Rattle.result.proofs.node.effective_stress.Statement.{statement}
+use Rattle.result.proofs.node.effective_stress.Tie as tie
+
+void-ratio-requires : tie.Need-void-ratio-requires
+void-ratio-requires c κs = search needs
+
+read-requires : tie.Need-read-requires
+read-requires c κs = let s = c .before in (s .pre .1 .0, compressibility-smooth _ _ _ (s .pre .1 .1))
+
+value-of-requires : tie.Need-value-of-requires
+value-of-requires c κs = search needs
+
+returns : tie.Need-returns
+unfolding effectiveStress
+returns c =
+    let e = c .before .before .void-ratio .ensures in
+    c .value-of .ensures ∙ ap valueOf (c .before .read .ensures .0 ∙ ap (curveAt (points _ _ _)) e)
+
+pub effective-stress-spec : {M : Type 1} → statement M
+effective-stress-spec =
+    tie.close (tie.spec void-ratio-requires read-requires value-of-requires returns)

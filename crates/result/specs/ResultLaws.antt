@@ -1,0 +1,135 @@
+-- A layer's result as it is stored: head, then elements.
+use Prim.Native.Nat.{ℕ, _+_, _*_, _≤_, _<_}
+use native.Mathlib.Omega.{arith}
+use borrow.Author.Tests.{lt-ltb, le-ltb}
+use lib.IntN.{ℤ, pos, _-ℤ_}
+use lib.ListN.{length, length-append}
+use lib.Seq.{sets}
+use mathlib.Core.Bool.{true, false}
+use mathlib.Core.List.{List, _++_}
+use mathlib.Core.Option.{Option, none, some}
+use mathlib.Core.Path.{_≡_, refl, sym, ap, _∙_}
+use Rattle.claims.specs.After.{height-parts}
+use Rattle.encoding.specs.Stores.{sets-then, sets-front}
+use Rattle.laws.specs.Lengths.{burdens-length}
+use Rattle.layer.specs.Weights.{burdenAt}
+use Rattle.numbers.specs.Arrays.{firstPlaces, overlaid, filled}
+use Rattle.numbers.specs.Filled.{tabulated, getD-filled, first-length}
+use Rattle.numbers.specs.Signed.{signed, sub-parts}
+use Rattle.numbers.specs.Sums.{sum}
+use Rattle.result.specs.Elements.{elements-length}
+use Rattle.result.specs.HeadLaws.{length-head}
+use Rattle.rules.specs.Curve.{points}
+use Rattle.rules.specs.Layer.{burdens}
+use Rattle.rules.specs.Record.{recordSite, recordState, isLayer}
+use Rattle.rules.specs.Refusals.{firstCause}
+use Rattle.rules.specs.Result.{headBytes, elementsBytes, settlement, resultHead, resultBytes, resultSize, resultRefusal, result, Returned, withheld}
+use Rattle.rules.specs.Tally.{layerHeight}
+use Rattle.rules.specs.declared.answers.Refusal.{Refusal}
+use Rattle.rules.specs.declared.answers.Refusal.the-variants.{NoLayer, ShortBuffer}
+use Rattle.rules.specs.declared.answers.Stop.{Stop}
+use Rattle.rules.specs.declared.record.Record.{Record}
+
+-- ---- the bytes
+
+-- a layer settles by the water that left it
+pub settled : (r : Record) → settlement r ≡ pos (r .«starting_water») -ℤ pos (sum (firstPlaces r.elements r.water))
+unfolding settlement recordSite recordState layerHeight
+settled r =
+    let Ss = firstPlaces r.elements r.solids in
+    let Ws = firstPlaces r.elements r.water in
+    let start = r .«starting_water» in
+    rw (height-parts Ss Ws (first-length r.elements r.water ∙ sym (first-length r.elements r.solids)))
+    (omega (signed, sub-parts (pos (sum Ss + start)) (pos (sum Ss + sum Ws)), sub-parts (pos start) (pos (sum Ws))))
+
+-- the burdens in the first places of an array
+pub first-burdens : (array : List ℕ) (gravity n : ℕ) (solids : List ℕ) →
+    firstPlaces n (filled array n (burdenAt gravity n solids)) ≡ burdens gravity (firstPlaces n solids)
+unfolding firstPlaces burdenAt
+first-burdens array gravity n solids =
+    let Ss = firstPlaces n solids in
+    sym (tabulated n _ (burdens gravity Ss) 0 (burdens-length gravity Ss ∙ first-length n solids)
+    (λ k h. sym (getD-filled array n (burdenAt gravity n solids) k 0 h)))
+
+module _ (r : Record) (stop : Stop) (steps : ℕ) where
+  abbrev n : ℕ
+  n = r.elements
+
+  abbrev gone : ℤ
+  gone = pos (r .«starting_water») -ℤ pos (sum (firstPlaces n r.water))
+
+  abbrev headed : List ℕ
+  headed = headBytes stop n (r .clock .0) steps (r .load .0) (r .«top_outflow») (r .«bottom_outflow») gone
+
+  abbrev standing : (burden : List ℕ) → List ℕ
+  standing burden =
+      elementsBytes (points (r .«compressibility_points») (r .«compressibility_void») (r .«compressibility_stress»))
+      (r .«top_level» .0) (r .load .0) 0 (firstPlaces n burden) (firstPlaces n r.solids) (firstPlaces n r.water)
+
+  bytes-are : (array burden : List ℕ) → burden ≡ filled array n (burdenAt r.gravity n r.solids) →
+      resultBytes r stop steps ≡ headed ++ standing burden
+  unfolding resultBytes resultHead recordSite recordState
+  bytes-are array burden e = rw (e, first-burdens array r.gravity n r.solids, settled r) refl
+
+  standing-length : (burden : List ℕ) → length (standing burden) ≡ 40 * n
+  standing-length burden =
+      let b = first-length n burden in
+      elements-length _ _ _ 0 (firstPlaces n burden) (firstPlaces n r.solids) (firstPlaces n r.water)
+      (first-length n r.solids ∙ sym b) (first-length n r.water ∙ sym b) ∙ ap (λ (k : ℕ). 40 * k) b
+
+  pub result-stored : (array burden buffer first last : List ℕ) → burden ≡ filled array n (burdenAt r.gravity n r.solids) →
+      resultSize n ≤ length buffer → first ≡ sets buffer 0 headed → last ≡ sets first 56 (standing burden) →
+      last ≡ overlaid (resultBytes r stop steps) buffer
+  unfolding resultSize
+  result-stored array burden buffer first last e room h k =
+      let long = length-head stop n (r .clock .0) steps (r .load .0) (r .«top_outflow») (r .«bottom_outflow») gone in
+      let both : length (headed ++ standing burden) ≤ length buffer =
+      omega (arith, length-append headed (standing burden), long, standing-length burden) in
+      sets-then buffer 0 headed (standing burden) h (rw long refl) k ∙ sets-front buffer (headed ++ standing burden) both ∙
+      rw (bytes-are array burden e) refl
+
+-- ---- the refusals
+
+module _ (r : Record) (room : ℕ) (is : isLayer r ≡ true) where
+  pub refused-for-room : room < resultSize r.elements → resultRefusal r room ≡ some ShortBuffer
+  unfolding resultRefusal firstCause
+  refused-for-room h = rw (is, lt-ltb room (resultSize r.elements) h)
+
+  pub not-refused : resultSize r.elements ≤ room → resultRefusal r room ≡ none
+  unfolding resultRefusal firstCause
+  not-refused h = rw (is, le-ltb room (resultSize r.elements) h)
+
+module _ (r : Record) (stop : Stop) (steps : ℕ) (buffer : List ℕ) where
+  by-refusal : (cause : Option Refusal) → resultRefusal r (length buffer) ≡ cause →
+      result r stop steps buffer ≡ elim cause [
+        | some cause ↦ withheld cause buffer
+        | none ↦ record { number = 0; buffer = overlaid (resultBytes r stop steps) buffer }
+      ]
+  unfolding result
+  by-refusal cause e =
+      ap (λ (c : Option Refusal). elim c as (λ _. Returned) [
+        | some x ↦ withheld x buffer
+        | none ↦ record { number = 0; buffer = overlaid (resultBytes r stop steps) buffer }
+      ]) e
+
+  -- cause 11 comes first
+  pub no-layer : isLayer r ≡ false → result r stop steps buffer ≡ withheld NoLayer buffer
+  unfolding resultRefusal firstCause
+  no-layer e = by-refusal (some NoLayer) (rw e)
+
+  -- then 10
+  pub short-buffer : isLayer r ≡ true → length buffer < resultSize r.elements → result r stop steps buffer ≡ withheld ShortBuffer buffer
+  short-buffer is h = by-refusal (some ShortBuffer) (refused-for-room r (length buffer) is h)
+
+  pub result-written : isLayer r ≡ true → resultSize r.elements ≤ length buffer →
+      result r stop steps buffer ≡ record { number = 0; buffer = overlaid (resultBytes r stop steps) buffer }
+  result-written is h = by-refusal none (not-refused r (length buffer) is h)
+
+-- ---- what is returned and left, by an equation
+
+module _ {a b : Returned} (e : a ≡ b) where
+  pub number-is : b .number ≡ a .number
+  number-is = ap (λ (x : Returned). x .number) (sym e)
+
+  pub buffer-is : b .buffer ≡ a .buffer
+  buffer-is = ap (λ (x : Returned). x .buffer) (sym e)

@@ -1,0 +1,141 @@
+// What a result says of each element.
+ghost use lib.ListN.{length, getD};
+ghost use lib.Seq.{sets};
+ghost use mathlib.Core.Bool.{true};
+ghost use mathlib.Core.Path.{_≡_};
+ghost use Prim.Native.Nat.{ℕ, _+_, _*_, _≤_, _<_};
+ghost use Rattle.element.specs.Elements.{mostExcess};
+ghost use Rattle.layer.specs.Soil.{OnSoil};
+ghost use Rattle.numbers.specs.Arrays.{firstPlaces};
+ghost use Rattle.numbers.specs.Interval.{Within};
+ghost use Rattle.result.specs.Elements.{mostHeight, mostPore};
+ghost use Rattle.rules.specs.Curve.{points, compressibilitySound, valueOf};
+ghost use Rattle.rules.specs.Layer.{effectiveStress};
+ghost use Rattle.rules.specs.Quantities.{levelLimits, solidsLimits, stressLimits, waterLimits, withinℤ};
+ghost use Rattle.rules.specs.Result.{nodeHeight, poreOver, elementWords, elementBytes, elementsBytes};
+use curves::reading;
+use rules::quantities::Head;
+
+// z of an element over the height of all below.
+pub fn node_height(below: u64, solids: u64, water: u64) -> u64
+    requires { ⌜ below ≤ mostHeight ⌝ }
+    requires { ⌜ (solids ≤ solidsLimits .most) × (water ≤ waterLimits .most) ⌝ }
+    ensures { λ r. ⌜ r ≡ nodeHeight below solids water ⌝ }
+{
+    below + numbers::floor(solids + water, 2)
+}
+
+// The pore pressure of one element, from its excess pressure and the height of its node.
+pub fn pore_pressure(excess: i64, top_level: Head, z: u64) -> i64
+    requires { ⌜ Within excess mostExcess ⌝ }
+    requires { ⌜ (withinℤ levelLimits («top_level» .0) ≡ true) × (z ≤ levelLimits .most) ⌝ }
+    ensures { λ r. ⌜ r ≡ poreOver excess («top_level» .0) z ⌝ }
+{
+    excess + Head(top_level.0 - z as i64).as_pressure().0
+}
+
+// The effective stress of an element, 0 off the curve.
+pub fn effective_stress<'a>(
+    solids: u64,
+    water: u64,
+    m: usize,
+    void: &'a [u64; 64],
+    stress: &'a [u64; 64],
+) -> u64
+    requires { ⌜ (0 < solids) × (water ≤ waterLimits .most) ⌝ }
+    requires { ⌜ (2 ≤ m) × (m ≤ 64) ⌝ }
+    requires { ⌜ compressibilitySound (points m (now void) (now stress)) ≡ true ⌝ }
+    ensures { λ r. ⌜ r ≡ valueOf (effectiveStress (points m (now (void .entry)) (now (stress .entry))) solids water) ⌝ }
+{
+    let found = reading::read(m, void, stress, element::void_ratio(solids, water), 0);
+    let value = found.value;
+    reading::value_of(value)
+}
+
+// Stores water, void ratio, effective stress, total stress and pore pressure.
+pub fn write_words(out: &mut [u8], at: usize, water: u64, ratio: u64, effective: u64, pore: i64)
+    requires { ⌜ at + 40 ≤ length (now out) ⌝ }
+    requires { ⌜ (effective ≤ stressLimits .most) × Within pore mostPore ⌝ }
+    ensures { λ _. ⌜ now (out .exit) ≡ sets (now (out .entry)) at (elementWords water ratio effective pore) ⌝ }
+{
+    encoding::put_word(out, at, water);
+    encoding::put_word(out, at + 8, ratio);
+    encoding::put_word(out, at + 16, effective);
+    encoding::put_signed(out, at + 24, pore + effective as i64);
+    encoding::put_signed(out, at + 32, pore);
+}
+
+// Stores an element's water, void ratio, effective stress, total stress and pore pressure.
+pub fn write_element<'a>(
+    out: &mut [u8],
+    at: usize,
+    load: i64,
+    top_level: Head,
+    below: u64,
+    burden: u64,
+    solids: u64,
+    water: u64,
+    m: usize,
+    void: &'a [u64; 64],
+    stress: &'a [u64; 64],
+)
+    requires { ⌜ at + 40 ≤ length (now out) ⌝ }
+    requires { ⌜ (below ≤ mostHeight) × (withinℤ levelLimits («top_level» .0) ≡ true) ⌝ }
+    requires { ⌜ (2 ≤ m) × (m ≤ 64) ⌝ }
+    requires { ⌜ compressibilitySound (points m (now void) (now stress)) ≡ true ⌝ }
+    requires { ⌜ OnSoil m (now void) (now stress) load burden solids water ⌝ }
+    ensures { λ _. ⌜ now (out .exit) ≡ sets (now (out .entry)) at (elementBytes (points m (now (void .entry)) (now (stress .entry))) («top_level» .0) load below burden solids water) ⌝ }
+{
+    let effective = effective_stress(solids, water, m, void, stress);
+    let excess = element::excess_pressure(load, burden, effective);
+    let pore = pore_pressure(excess, top_level, node_height(below, solids, water));
+    write_words(
+        out,
+        at,
+        water,
+        element::void_ratio(solids, water),
+        effective,
+        pore,
+    );
+}
+
+// Stores all elements from byte 56 on.
+pub fn write_elements<'a>(
+    n: usize,
+    load: i64,
+    top_level: Head,
+    burden: &'a [u64; 128],
+    solids: &'a [u64; 128],
+    water: &'a [u64; 128],
+    m: usize,
+    void: &'a [u64; 64],
+    stress: &'a [u64; 64],
+    out: &mut [u8],
+)
+    requires { ⌜ (n ≤ 128) × (56 + 40 * n ≤ length (now out)) ⌝ }
+    requires { ⌜ withinℤ levelLimits («top_level» .0) ≡ true ⌝ }
+    requires { ⌜ (2 ≤ m) × (m ≤ 64) ⌝ }
+    requires { ⌜ compressibilitySound (points m (now void) (now stress)) ≡ true ⌝ }
+    requires { ⌜ ((j : ℕ) → j < n → OnSoil m (now void) (now stress) load (getD (now burden) j 0) (getD (now solids) j 0) (getD (now water) j 0)) ⌝ }
+    ensures { λ _. ⌜ now (out .exit) ≡ sets (now (out .entry)) 56 (elementsBytes (points m (now (void .entry)) (now (stress .entry))) («top_level» .0) load 0 (firstPlaces n (now (burden .entry))) (firstPlaces n (now (solids .entry))) (firstPlaces n (now (water .entry)))) ⌝ }
+{
+    let mut below: u64 = 0;
+    let mut j: usize = 0;
+    while j < n {
+        write_element(
+            out,
+            56 + 40 * j,
+            load,
+            top_level,
+            below,
+            burden[j],
+            solids[j],
+            water[j],
+            m,
+            void,
+            stress,
+        );
+        below += solids[j] + water[j];
+        j += 1;
+    }
+}
