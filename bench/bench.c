@@ -1,13 +1,14 @@
-/* Times three kernels on the same layers: plain, tuned, and the Rattle function of libmeasure.a.
+/* Times three keys on the same jobs: plain and tuned, which are C, and the Rattle key of libkey.a.
  *
- * A round opens a row's layer and steps it from its start; for the Rattle function opening means reading
- * the job's bytes, for the C kernels a copy. A kernel's time is the best of several repetitions of so many
- * rounds, the kernels taking turns. All C is built by plain `gcc -O3`, with no option for the machine.
+ * A round is one call, from a job's bytes to a result's. A key's time is the best of several repetitions of
+ * so many rounds, the keys taking turns. All C is built by plain `gcc -O3`, with no option for the machine.
  *
- * All kernels have to give the same numbers, and every layer has to move water to its last step. */
+ * All keys have to write the same bytes, and every job has to take its steps, moving water to the last. */
+#include "bytes.h"
 #include "job.h"
-#include "layer.h"
+#include "key.h"
 #include "layers.h"
+#include "stack.h"
 
 #include <inttypes.h>
 #include <stdarg.h>
@@ -16,170 +17,203 @@
 #include <string.h>
 #include <time.h>
 
-/* Opens the job and runs it to the clock's limit with a budget of steps. Writes, where `out` has room for
- * STATE_WORDS words, clock, the parts of both outflows above and below 0, and the water of 128 places.
- * Returns the number of steps; a refused job takes none. */
-uint64_t measured_run(const uint8_t *job, size_t job_len, uint64_t budget, uint64_t *out, size_t out_len);
+/* The Rattle key. */
+key_function consolidation_key;
 
-enum { STATE_WORDS = 5 + MOST_ELEMENTS };
+enum { PLAIN, TUNED, RATTLE, KEYS };
 
-/* The words of a result; the water of every element comes last. */
-enum { STEPS, CLOCK, TOP_OUTFLOW, BOTTOM_OUTFLOW, WATER, MOST_WORDS = WATER + MOST_ELEMENTS };
-static const char *const word_names[] = {"steps", "clock", "top outflow", "bottom outflow"};
+static const struct key {
+    const char *name;
+    key_function *work;
+} keys[KEYS] = {
+    [PLAIN] = {"plain", plain_key},
+    [TUNED] = {"tuned", tuned_key},
+    [RATTLE] = {"Rattle", consolidation_key},
+};
 
-enum { REPETITIONS = 7 };
-static const double repetition_seconds = 0.15;
+/* Offsets in a result. */
+enum { STEPS = 16, ELEMENTS = 56 };
 
-/* The strength is such that the mud still settles after so many steps. */
+enum { REPETITIONS = 5 };
+static const uint64_t latest_end = 3000000000;
+static const double repetition_seconds = 0.1;
+
+/* A row of mud. The strength is such that it still settles after so many steps. */
 struct row {
     uint64_t count, points, strength, steps;
+    int repetitions;
 };
 
 static const struct row rows[] = {
-    {1, 2, 20000, 40000},
-    {1, 64, 20000, 40000},
-    {16, 2, 4000000, 20000},
-    {16, 64, 4000000, 20000},
-    {128, 2, 100000000, 20000},
-    {128, 64, 100000000, 20000},
+    {128, 64, 10000000, 1000000, 2},
+    {128, 2, 100000000, 20000, REPETITIONS},
+    {16, 64, 4000000, 20000, REPETITIONS},
+    {16, 2, 4000000, 20000, REPETITIONS},
+    {1, 64, 20000, 40000, REPETITIONS},
+    {1, 2, 20000, 40000, REPETITIONS},
 };
 
-/* A row's layer, and the same as a job. */
+static const struct row growing_rows[] = {
+    {16, 64, 4000000, 10000, REPETITIONS},
+    {16, 64, 4000000, 20000, REPETITIONS},
+    {32, 64, 10000000, 10000, REPETITIONS},
+    {32, 64, 10000000, 20000, REPETITIONS},
+    {64, 64, 30000000, 10000, REPETITIONS},
+    {64, 64, 30000000, 20000, REPETITIONS},
+    {128, 64, 100000000, 10000, REPETITIONS},
+    {128, 64, 100000000, 20000, REPETITIONS},
+};
+
+/* A job with its name, its bytes and the bytes of its result, which are those of the plain key. */
 struct problem {
-    const struct row *row;
-    struct layer layer;
-    uint8_t job[MOST_JOB_BYTES];
-    size_t job_length;
+    char name[80];
+    struct job job;
+    uint8_t bytes[MOST_JOB_BYTES];
+    size_t length;
+    uint8_t expected[MOST_RESULT_BYTES];
+    size_t result_length;
 };
 
-typedef void kernel_function(const struct problem *problem, uint64_t steps, uint64_t *result);
-
-static void fail(const struct row *row, const char *format, ...)
+static void fail(const struct problem *problem, const char *format, ...)
 {
     va_list arguments;
     va_start(arguments, format);
     fflush(stdout);
-    fprintf(stderr, "%" PRIu64 " elements, %" PRIu64 " points: ", row->count, row->points);
+    fprintf(stderr, "%s: ", problem->name);
     vfprintf(stderr, format, arguments);
     fprintf(stderr, "\n");
     va_end(arguments);
     exit(1);
 }
 
-static void run_layer(steps_function *kernel, const struct problem *problem, uint64_t steps,
-                      uint64_t *result)
+static void work(const struct key *key, const struct problem *problem, uint8_t *result)
 {
-    struct layer layer = problem->layer;
-    result[STEPS] = (uint64_t)kernel(&layer, steps, LONGEST_STEP);
-    result[CLOCK] = layer.clock;
-    result[TOP_OUTFLOW] = (uint64_t)layer.top_outflow;
-    result[BOTTOM_OUTFLOW] = (uint64_t)layer.bottom_outflow;
-    memcpy(result + WATER, layer.water, layer.count * sizeof layer.water[0]);
+    uint32_t refusal = key->work(problem->bytes, problem->length, result, problem->result_length);
+    if (refusal != 0)
+        fail(problem, "refused %" PRIu32 " by %s", refusal, key->name);
 }
 
-static void run_plain(const struct problem *problem, uint64_t steps, uint64_t *result)
-{
-    run_layer(steps_plain, problem, steps, result);
-}
-
-static void run_tuned(const struct problem *problem, uint64_t steps, uint64_t *result)
-{
-    run_layer(steps_tuned, problem, steps, result);
-}
-
-static void run_rattle(const struct problem *problem, uint64_t steps, uint64_t *result)
-{
-    uint64_t out[STATE_WORDS];
-    result[STEPS] = measured_run(problem->job, problem->job_length, steps, out, STATE_WORDS);
-    if (result[STEPS] == 0)
-        fail(problem->row, "the Rattle function took no step");
-    result[CLOCK] = out[0];
-    result[TOP_OUTFLOW] = out[1] - out[2];
-    result[BOTTOM_OUTFLOW] = out[3] - out[4];
-    memcpy(result + WATER, out + 5, problem->row->count * sizeof out[0]);
-}
-
-enum { PLAIN, TUNED, RATTLE, KERNELS };
-
-static const struct kernel {
-    const char *name;
-    kernel_function *run;
-} kernels[KERNELS] = {
-    [PLAIN] = {"plain", run_plain},
-    [TUNED] = {"tuned", run_tuned},
-    [RATTLE] = {"Rattle", run_rattle},
-};
-
-static double seconds_for(const struct kernel *kernel, const struct problem *problem, uint64_t rounds,
-                          uint64_t *result)
+static double seconds_for(const struct key *key, const struct problem *problem, uint64_t rounds,
+                          uint8_t *result)
 {
     clock_t begin = clock();
     for (uint64_t round = 0; round < rounds; round++)
-        kernel->run(problem, problem->row->steps, result);
+        work(key, problem, result);
     return (double)(clock() - begin) / CLOCKS_PER_SEC;
 }
 
-static void require_steps(const struct problem *problem, const uint64_t *expected)
+static void require_equal(const struct problem *problem, const struct key *key, const uint8_t *result)
 {
-    const struct row *row = problem->row;
-    uint64_t before[MOST_WORDS];
-    if (expected[STEPS] != row->steps)
-        fail(row, "stopped after %" PRIu64 " of %" PRIu64 " steps", expected[STEPS], row->steps);
-    run_plain(problem, row->steps - 1, before);
-    if (memcmp(before + WATER, expected + WATER, row->count * sizeof before[0]) == 0)
-        fail(row, "at rest before %" PRIu64 " steps", row->steps);
+    for (size_t i = 0; i < problem->result_length; i++)
+        if (result[i] != problem->expected[i])
+            fail(problem, "byte %zu is %d by %s, %d by plain", i, result[i], key->name, problem->expected[i]);
 }
 
-static void require_equal(const struct row *row, const char *name, const uint64_t *result,
-                          const uint64_t *expected)
+/* Every step of the budget has to be taken, and the last has to move water. */
+static void require_steps(const struct problem *problem)
 {
-    for (uint64_t i = 0; i < WATER; i++)
-        if (result[i] != expected[i])
-            fail(row, "%s of %s %" PRId64 ", of plain %" PRId64, word_names[i], name,
-                 (int64_t)result[i], (int64_t)expected[i]);
-    for (uint64_t j = 0; j < row->count; j++)
-        if (result[WATER + j] != expected[WATER + j])
-            fail(row, "water of element %" PRIu64 " of %s %" PRIu64 ", of plain %" PRIu64, j + 1, name,
-                 result[WATER + j], expected[WATER + j]);
+    uint64_t taken = get64(problem->expected + STEPS), budget = problem->job.budget;
+    if (taken != budget)
+        fail(problem, "stopped after %" PRIu64 " of %" PRIu64 " steps", taken, budget);
+    if (budget == 0)
+        return;
+    struct problem before = *problem;
+    uint8_t result[MOST_RESULT_BYTES];
+    before.job.budget--;
+    write_job(&before.job, before.bytes);
+    work(&keys[TUNED], &before, result);
+    if (memcmp(result + ELEMENTS, problem->expected + ELEMENTS, problem->result_length - ELEMENTS) == 0)
+        fail(problem, "at rest before %" PRIu64 " steps", budget);
 }
 
-static void measure(const struct row *row)
+/* The seconds that each key takes for one round. */
+static void time_keys(struct problem *problem, int repetitions, double *best)
 {
-    struct problem problem = {.row = row};
-    uint64_t expected[MOST_WORDS], result[MOST_WORDS];
-    double best[KERNELS];
-    make_layer(&problem.layer, row->count, row->points, row->strength);
-    problem.job_length = write_job(&problem.layer, problem.job);
-
-    run_plain(&problem, row->steps, expected);
-    require_steps(&problem, expected);
-    double seconds = seconds_for(&kernels[TUNED], &problem, 1, result);
+    uint8_t result[MOST_RESULT_BYTES];
+    problem->length = write_job(&problem->job, problem->bytes);
+    problem->result_length = result_bytes(problem->job.layer.count);
+    double seconds = seconds_for(&keys[PLAIN], problem, 1, problem->expected);
     uint64_t rounds = 1 + (uint64_t)(repetition_seconds / (seconds + 1e-6));
-
-    for (int repetition = 0; repetition < REPETITIONS; repetition++)
-        for (int i = 0; i < KERNELS; i++) {
+    require_steps(problem);
+    for (int repetition = 0; repetition < repetitions; repetition++)
+        for (int i = 0; i < KEYS; i++) {
             memset(result, 0, sizeof result);
-            seconds = seconds_for(&kernels[i], &problem, rounds, result);
-            require_equal(row, kernels[i].name, result, expected);
+            seconds = seconds_for(&keys[i], problem, rounds, result) / (double)rounds;
+            require_equal(problem, &keys[i], result);
             if (repetition == 0 || seconds < best[i])
                 best[i] = seconds;
         }
+}
 
-    printf("%8" PRIu64 " %6" PRIu64 " %8" PRIu64, row->count, row->points, row->steps);
-    for (int i = 0; i < KERNELS; i++)
-        printf(" %8.2f", best[i] * 1e9 / (double)(rounds * row->steps * row->count));
+/* One line of a table: each key's time in units of `unit` seconds, and the ratios. */
+static void print_times(const double *best, double unit)
+{
+    for (int i = 0; i < KEYS; i++)
+        printf(" %8.2f", best[i] / unit);
     printf(" %13.2f %13.2f\n", best[RATTLE] / best[TUNED], best[RATTLE] / best[PLAIN]);
     fflush(stdout);
 }
 
+static void print_heads(void)
+{
+    for (int i = 0; i < KEYS; i++)
+        printf(" %8s", keys[i].name);
+    printf(" %13s %13s\n", "Rattle/tuned", "Rattle/plain");
+}
+
+static void measure_rows(const struct row *row, size_t count, const char *title)
+{
+    printf("%s\n%8s %6s %8s", title, "elements", "points", "steps");
+    print_heads();
+    for (const struct row *end = row + count; row < end; row++) {
+        struct problem problem = {.job = {.end = latest_end, .budget = row->steps}};
+        double best[KEYS];
+        snprintf(problem.name, sizeof problem.name,
+                 "%" PRIu64 " elements, %" PRIu64 " points, %" PRIu64 " steps", row->count, row->points,
+                 row->steps);
+        make_layer(&problem.job.layer, row->count, row->points, row->strength);
+        time_keys(&problem, row->repetitions, best);
+        printf("%8" PRIu64 " %6" PRIu64 " %8" PRIu64, row->count, row->points, row->steps);
+        print_times(best, 1e-9 * (double)(row->count * row->steps));
+    }
+}
+
+static void measure_call(struct problem *problem)
+{
+    double best[KEYS];
+    time_keys(problem, REPETITIONS, best);
+    printf("%-24s", problem->name);
+    print_times(best, 1e-6);
+}
+
+static void measure_calls(void)
+{
+    struct problem specimen = {"the specimen, one step", .job = {.end = 100, .budget = 1}};
+    struct problem mud = {"16 elements, no step", .job = {.end = latest_end, .budget = 0}};
+    make_specimen(&specimen.job.layer);
+    make_layer(&mud.job.layer, 16, 64, 4000000);
+    printf("\nmicroseconds for a small job, from call to bytes\n%-24s", "job");
+    print_heads();
+    measure_call(&specimen);
+    measure_call(&mud);
+}
+
+/* Of the Rattle key, on a job of the largest layer. */
+static void measure_stack(void)
+{
+    struct job job = {.end = latest_end, .budget = 100};
+    uint8_t bytes[MOST_JOB_BYTES], result[MOST_RESULT_BYTES];
+    make_layer(&job.layer, MOST_ELEMENTS, MOST_POINTS, 100000000);
+    printf("\nstack used by one key: %zu bytes\n",
+           stack_used(consolidation_key, bytes, write_job(&job, bytes), result, sizeof result));
+}
+
 int main(void)
 {
-    printf("ns for each element and step, and ratios of times\n");
-    printf("%8s %6s %8s", "elements", "points", "steps");
-    for (int i = 0; i < KERNELS; i++)
-        printf(" %8s", kernels[i].name);
-    printf(" %13s %13s\n", "Rattle/tuned", "Rattle/plain");
-    for (size_t i = 0; i < sizeof rows / sizeof rows[0]; i++)
-        measure(&rows[i]);
+    measure_rows(rows, sizeof rows / sizeof rows[0], "ns for each element and step, and ratios of times");
+    measure_calls();
+    measure_rows(growing_rows, sizeof growing_rows / sizeof growing_rows[0],
+                 "\nns for each element and step as elements and steps grow");
+    measure_stack();
     return 0;
 }

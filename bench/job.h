@@ -1,4 +1,4 @@
-/* The job bytes of a layer. */
+/* A job's bytes: opening them, and writing them. */
 #ifndef JOB_H
 #define JOB_H
 
@@ -6,10 +6,33 @@
 
 #include <stddef.h>
 
-enum { MOST_JOB_BYTES = 48 + 16 * (MOST_ELEMENTS + 2 * MOST_POINTS + 1) };
+enum { MOST_JOB_BYTES = 48 + 16 * (MOST_ELEMENTS + 3 * MOST_POINTS) };
 
-/* Writes the job whose opening gives the layer as it is, with its load as a table of one point. Clock and
- * outflows are no part of a job. Returns the number of bytes, at most MOST_JOB_BYTES. */
-size_t write_job(const struct layer *layer, uint8_t *job);
+/* The causes for which a key is withheld, numbered as the paper numbers them. */
+enum refusal {
+    ACCEPTED,
+    WRONG_MARK,
+    WRONG_VERSION,
+    HEADER_OUTSIDE,
+    WRONG_LENGTH,
+    FIELD_OUTSIDE,
+    UNSOUND_COMPRESSIBILITY,
+    UNSOUND_CONDUCTIVITY,
+    UNSOUND_TABLE,
+    START_OFF_CURVE,
+    RESULT_TOO_SHORT
+};
+
+/* A job opened: the layer as it starts, and the run asked for. */
+struct job {
+    struct layer layer;
+    uint64_t end, budget;
+};
+
+/* Tests everything about a job but the room for its result, in the paper's order. */
+enum refusal open_job(const uint8_t *bytes, size_t length, struct job *job);
+
+/* Writes the job, with the water of its layer given. Returns the number of bytes, at most MOST_JOB_BYTES. */
+size_t write_job(const struct job *job, uint8_t *bytes);
 
 #endif

@@ -1,7 +1,5 @@
 #include "layers.h"
 
-#include <string.h>
-
 /* `whole` × (i / last)^2, rounded down. */
 static uint64_t square(uint64_t whole, uint64_t i, uint64_t last)
 {
@@ -24,17 +22,23 @@ static void make_curves(struct layer *layer, uint64_t points, uint64_t strength)
 
 void make_layer(struct layer *layer, uint64_t count, uint64_t points, uint64_t strength)
 {
-    memset(layer, 0, sizeof *layer);
+    *layer = (struct layer){
+        .count = count, .table_points = 1, .table_load = {strength / 4}, .top = DRAINED, .bottom = DRAINED,
+        .top_level = 10000000000, .bottom_level = 10000000000 + 10 * strength, .gravity = 2650,
+    };
     make_curves(layer, points, strength);
-    layer->count = count;
     for (uint64_t j = 0; j < count; j++) {
         layer->solids[j] = 1000000 + 3700 * (j * 7 % 16);
         layer->water[j] = layer->solids[j] / 100 * (440 + 3 * (j * 5 % 8));
     }
-    layer->top = layer->bottom = DRAINED;
-    layer->top_level = 10000000000;
-    layer->bottom_level = layer->top_level + 10 * strength;
-    layer->bottom_pressure = (int64_t)(layer->bottom_level - layer->top_level) * 981 / 100000;
-    layer->gravity = 2650;
-    layer->load = (int64_t)(strength / 4);
+}
+
+void make_specimen(struct layer *layer)
+{
+    *layer = (struct layer){
+        .count = 2, .solids = {1000000, 1000000}, .water = {2000000, 2000000},
+        .m = 2, .stress = {5000000, 105000000}, .void_ratio = {200000000, 100000000},
+        .n = 2, .conductivity_void = {100000000, 200000000}, .conductivity = {100000, 200000},
+        .table_points = 1, .table_load = {15000000}, .top = DRAINED, .top_level = 10000000, .gravity = 1000,
+    };
 }

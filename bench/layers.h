@@ -9,4 +9,7 @@
  * greatest stress of its compressibility curve: the less it is, the more steps the mud needs to settle. */
 void make_layer(struct layer *layer, uint64_t count, uint64_t points, uint64_t strength);
 
+/* The paper's specimen. */
+void make_specimen(struct layer *layer);
+
 #endif

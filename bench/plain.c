@@ -1,33 +1,14 @@
 /* The method as the paper writes it. */
-#include "layer.h"
+#include "soil.h"
 
 #include <stdbool.h>
-
-static uint64_t ceil_div(uint64_t a, uint64_t b)
-{
-    return (a + b - 1) / b;
-}
-
-static int64_t void_ratio(const struct layer *layer, uint64_t j, int64_t water)
-{
-    return water * (int64_t)VOID_UNIT / (int64_t)layer->solids[j];
-}
 
 static bool on_curve(const struct layer *layer, uint64_t j, int64_t water)
 {
     if (water < 0)
         return false;
-    uint64_t e = void_ratio(layer, j, water);
+    uint64_t e = void_ratio(layer->solids[j], (uint64_t)water);
     return e <= layer->void_ratio[0] && e >= layer->void_ratio[layer->m - 1];
-}
-
-static uint64_t effective_stress(const struct layer *layer, uint64_t e)
-{
-    const uint64_t *v = layer->void_ratio, *s = layer->stress;
-    uint64_t i = 0;
-    while (e < v[i + 1])
-        i++;
-    return s[i] + (s[i + 1] - s[i]) * (v[i] - e) / (v[i] - v[i + 1]);
 }
 
 static uint64_t hydraulic_conductivity(const struct layer *layer, uint64_t e)
@@ -39,32 +20,8 @@ static uint64_t hydraulic_conductivity(const struct layer *layer, uint64_t e)
     return k[i] + (k[i + 1] - k[i]) * (e - v[i]) / (v[i + 1] - v[i]);
 }
 
-/* Stress of the buoyant solids above the middle of each element. */
-static void burdens(const struct layer *layer, int64_t *burden)
-{
-    uint64_t above = 0;
-    for (uint64_t j = layer->count; j-- > 0;) {
-        uint64_t own = layer->solids[j] * (layer->gravity - 1000) * 9810 / 1000000000;
-        burden[j] = above + own / 2;
-        above += own;
-    }
-}
-
-/* Greatest rise of stress for one unit of void ratio. */
-static uint64_t stiffness(const struct layer *layer)
-{
-    const uint64_t *v = layer->void_ratio, *s = layer->stress;
-    uint64_t greatest = 0;
-    for (uint64_t i = 0; i + 1 < layer->m; i++) {
-        uint64_t rise = ceil_div(s[i + 1] - s[i], v[i] - v[i + 1]);
-        if (rise > greatest)
-            greatest = rise;
-    }
-    return greatest;
-}
-
 /* Faces 0 to count: face j is below element j. */
-int64_t steps_plain(struct layer *layer, uint64_t steps, uint64_t most)
+struct outcome run_plain(struct layer *layer, uint64_t end, uint64_t budget)
 {
     const uint64_t count = layer->count;
     const uint64_t g = stiffness(layer);
@@ -78,15 +35,22 @@ int64_t steps_plain(struct layer *layer, uint64_t steps, uint64_t most)
     for (uint64_t j = 0; j < count; j++)
         sensitivity[j] = ceil_div(VOID_UNIT, layer->solids[j]);
 
-    for (uint64_t taken = 0; taken < steps; taken++) {
+    for (uint64_t steps = 0;; steps++) {
+        if (layer->clock == end)
+            return (struct outcome){AT_END, steps};
+        if (steps == budget)
+            return (struct outcome){BUDGET_USED, steps};
+
+        uint64_t point = table_point(layer, 0);
+        layer->load = load_at(layer, point);
         for (uint64_t j = 0; j < count; j++) {
-            uint64_t e = void_ratio(layer, j, layer->water[j]);
+            uint64_t e = void_ratio(layer->solids[j], layer->water[j]);
             uint64_t height = layer->solids[j] + layer->water[j];
             excess[j] = layer->load + burden[j] - (int64_t)effective_stress(layer, e);
             half[j] = ceil_div(4905 * height, hydraulic_conductivity(layer, e));
         }
 
-        uint64_t t = most;
+        uint64_t t = most_seconds(layer, point, end);
         for (uint64_t j = 0; j <= count; j++) {
             uint64_t c;
             if (j == 0) {
@@ -108,7 +72,7 @@ int64_t steps_plain(struct layer *layer, uint64_t steps, uint64_t most)
                 t = longest;
         }
         if (t == 0)
-            return taken;
+            return (struct outcome){NO_STEP, steps};
 
         flow[0] = flow[count] = 0;
         if (layer->bottom == DRAINED)
@@ -121,7 +85,7 @@ int64_t steps_plain(struct layer *layer, uint64_t steps, uint64_t most)
         for (uint64_t j = 0; j < count; j++) {
             water[j] = (int64_t)layer->water[j] + flow[j] - flow[j + 1];
             if (!on_curve(layer, j, water[j]))
-                return taken;
+                return (struct outcome){OFF_CURVE, steps};
         }
         for (uint64_t j = 0; j < count; j++)
             layer->water[j] = water[j];
@@ -129,5 +93,4 @@ int64_t steps_plain(struct layer *layer, uint64_t steps, uint64_t most)
         layer->top_outflow += flow[count];
         layer->clock += t;
     }
-    return steps;
 }

@@ -1,14 +1,15 @@
 /* The method as the Rattle program works it: the same passes over the elements, in whole numbers.
  *
  * Burdens, sensitivities, bounds of water and stiffness are worked out once, and each element remembers
- * the segments of both curves where it was found last. */
-#include "layer.h"
+ * the segments of both curves where it was found last. Only here the point of the load table is remembered
+ * too; the Rattle program searches for it at every step. */
+#include "soil.h"
 
 #include <stdbool.h>
 
 /* What no step changes. */
 struct prepared {
-    uint64_t burden[MOST_ELEMENTS];
+    int64_t burden[MOST_ELEMENTS];
     uint64_t sensitivity[MOST_ELEMENTS];
     uint64_t low[MOST_ELEMENTS], high[MOST_ELEMENTS];   /* water on the curve, both included */
     uint64_t stiffness;
@@ -22,11 +23,6 @@ struct readings {
     uint64_t resistance[MOST_ELEMENTS];
 };
 
-static uint64_t ceil_div(uint64_t a, uint64_t b)
-{
-    return (a + (b - 1)) / b;
-}
-
 static uint64_t greater(uint64_t a, uint64_t b)
 {
     return a < b ? b : a;
@@ -37,29 +33,17 @@ static uint64_t distance(uint64_t a, uint64_t b)
     return a < b ? b - a : a - b;
 }
 
-static uint64_t buoyant_weight(const struct layer *layer, uint64_t j)
-{
-    return layer->solids[j] * (layer->gravity - 1000) * 9810 / 1000000000;
-}
-
 static void prepare(const struct layer *layer, struct prepared *prepared)
 {
-    const uint64_t *v = layer->void_ratio, *s = layer->stress;
-    const uint64_t wettest = v[0], driest = v[layer->m - 1];
-    uint64_t over = 0;
-    for (uint64_t j = 0; j < layer->count; j++)
-        over += buoyant_weight(layer, j);
+    const uint64_t wettest = layer->void_ratio[0], driest = layer->void_ratio[layer->m - 1];
+    burdens(layer, prepared->burden);
     for (uint64_t j = 0; j < layer->count; j++) {
-        uint64_t solids = layer->solids[j], own = buoyant_weight(layer, j);
-        over -= own;
-        prepared->burden[j] = over + own / 2;
+        uint64_t solids = layer->solids[j];
         prepared->sensitivity[j] = ceil_div(VOID_UNIT, solids);
-        prepared->low[j] = ceil_div(driest * solids, VOID_UNIT);
-        prepared->high[j] = ((wettest + 1) * solids - 1) / VOID_UNIT;
+        prepared->low[j] = least_water(solids, driest);
+        prepared->high[j] = most_water(solids, wettest);
     }
-    prepared->stiffness = 0;
-    for (uint64_t i = 0; i + 1 < layer->m; i++)
-        prepared->stiffness = greater(prepared->stiffness, ceil_div(s[i + 1] - s[i], v[i] - v[i + 1]));
+    prepared->stiffness = stiffness(layer);
 }
 
 /* Whether x lies between two abscissas of a falling or rising curve. */
@@ -86,11 +70,11 @@ static void read_elements(const struct layer *layer, const struct prepared *prep
 {
     for (uint64_t j = 0; j < layer->count; j++) {
         uint64_t solids = layer->solids[j], water = layer->water[j];
-        uint64_t e = water * VOID_UNIT / solids;
+        uint64_t e = void_ratio(solids, water);
         uint64_t stress = read_curve(layer->void_ratio, layer->stress, e, &readings->stress_segment[j]);
         uint64_t k = read_curve(layer->conductivity_void, layer->conductivity, e,
                                 &readings->conductivity_segment[j]);
-        readings->excess[j] = layer->load + (int64_t)prepared->burden[j] - (int64_t)stress;
+        readings->excess[j] = layer->load + prepared->burden[j] - (int64_t)stress;
         readings->resistance[j] = ceil_div(4905 * (solids + water), k);
     }
 }
@@ -154,24 +138,30 @@ static void move_water(struct layer *layer, int64_t enters, const int64_t *above
     }
 }
 
-int64_t steps_tuned(struct layer *layer, uint64_t steps, uint64_t most)
+struct outcome run_tuned(struct layer *layer, uint64_t end, uint64_t budget)
 {
     struct prepared prepared;
     struct readings readings = {0};
     int64_t above[MOST_ELEMENTS];
+    uint64_t point = 0;
     prepare(layer, &prepared);
-    for (uint64_t taken = 0; taken < steps; taken++) {
+    for (uint64_t steps = 0;; steps++) {
+        if (layer->clock == end)
+            return (struct outcome){AT_END, steps};
+        if (steps == budget)
+            return (struct outcome){BUDGET_USED, steps};
+        point = table_point(layer, point);
+        layer->load = load_at(layer, point);
         read_elements(layer, &prepared, &readings);
-        uint64_t t = longest_step(layer, &prepared, readings.resistance, most);
+        uint64_t t = longest_step(layer, &prepared, readings.resistance, most_seconds(layer, point, end));
         if (t == 0)
-            return (int64_t)taken;
+            return (struct outcome){NO_STEP, steps};
         int64_t enters = all_flows(layer, &readings, t, above);
         if (!stays_on_curve(layer, &prepared, enters, above))
-            return (int64_t)taken;
+            return (struct outcome){OFF_CURVE, steps};
         move_water(layer, enters, above);
         layer->bottom_outflow -= enters;
         layer->top_outflow += above[layer->count - 1];
         layer->clock += t;
     }
-    return (int64_t)steps;
 }

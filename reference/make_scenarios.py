@@ -10,7 +10,8 @@ seed, so the files are the same on every machine.
 
 INPUT   Files of lists, named in the file `args`. Words are 64 bits, little-endian; signed ones in two's complement.
         file      number of lists, then the lists
-        list      kind (0 a job, 1 a record), bytes of the body (at most 8,192), number of calls; body; calls
+        list      kind (0 a job, 1 a record), bytes of the body (at most 8,192), number of calls (at most 32); body;
+                  calls
         job       the job's bytes
         record    20 words: elements; points of first curve, second curve, load table; gravity; top, bottom (each 0 0,
                   or 1 and the pressure held, signed); top level, bottom level, load (signed); clock; top outflow,
@@ -51,6 +52,7 @@ CRATE = os.path.join(os.path.dirname(HERE), "crates", "scenarios")
 JOB, RECORD = 0, 1
 CALL_NUMBERS = {"load": 0, "step": 1, "run": 2}
 BODY_BYTES = 8_192
+CALLS = 32      # most calls of a list
 RECORD_WORDS = 20
 TOP_BIT, I64_MIN, I64_MAX, U64_MAX = ref.TOP_BIT, ref.I64_MIN, ref.I64_MAX, ref.U64_MAX
 
@@ -874,7 +876,7 @@ def made_files(least: int, runs: bool) -> Tuple[Dict[str, bytes], Answers]:
         made[os.path.join("data", name)] = file_bytes(items)
         lines.append(name)
         for number, item in enumerate(items):
-            assert len(item.body) <= BODY_BYTES
+            assert len(item.body) <= BODY_BYTES and len(item.calls) <= CALLS
             lines += answers.lines(number, item)
     made["args"] = "".join(name[5:] + "\n" for name in made).encode("ascii")
     made["stdout"] = ("\n".join(lines) + "\n").encode("ascii")
@@ -897,11 +899,11 @@ def difference(stored: bytes, made: bytes) -> str:
     return "byte %d, line %d; %d bytes stored, %d made" % (at, stored[:at].count(b"\n") + 1, len(stored), len(made))
 
 
-def check(made: Dict[str, bytes]) -> int:
-    """Compare the made files with the stored ones; 1 where they differ."""
-    faults = ["%s: should not be there" % name for name in stored_names(CRATE) if name not in made]
+def check(made: Dict[str, bytes], crate: str = CRATE) -> int:
+    """Compare the made files with a crate's stored ones; 1 where they differ."""
+    faults = ["%s: should not be there" % name for name in stored_names(crate) if name not in made]
     for name, data in made.items():
-        path = os.path.join(CRATE, name)
+        path = os.path.join(crate, name)
         if not os.path.exists(path):
             faults.append("%s: missing" % name)
             continue
@@ -910,17 +912,17 @@ def check(made: Dict[str, bytes]) -> int:
         if stored != data:
             faults.append("%s: differs from %s" % (name, difference(stored, data)))
     for fault in faults:
-        print("crates/scenarios/%s" % fault, file=sys.stderr)
+        print("crates/%s/%s" % (os.path.basename(crate), fault), file=sys.stderr)
     return 1 if faults else 0
 
 
-def write(made: Dict[str, bytes]) -> None:
-    """Store the made files in place of the old ones."""
-    os.makedirs(os.path.join(CRATE, "data"), exist_ok=True)
-    for name in stored_names(CRATE):
-        os.remove(os.path.join(CRATE, name))
+def write(made: Dict[str, bytes], crate: str = CRATE) -> None:
+    """Store the made files in a crate in place of the old ones."""
+    os.makedirs(os.path.join(crate, "data"), exist_ok=True)
+    for name in stored_names(crate):
+        os.remove(os.path.join(crate, name))
     for name, data in made.items():
-        with open(os.path.join(CRATE, name), "wb") as target:
+        with open(os.path.join(crate, name), "wb") as target:
             target.write(data)
 
 

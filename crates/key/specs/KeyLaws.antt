@@ -16,7 +16,7 @@ use Rattle.key.specs.Layers.{called-layer, called-elements}
 use Rattle.laws.specs.Every.{Every}
 use Rattle.numbers.specs.Arrays.{overlaid}
 use Rattle.numbers.specs.Searches.{passed, both}
-use Rattle.result.specs.ResultLaws.{refused-for-room, not-refused, result-written}
+use Rattle.result.specs.ResultLaws.{refused-for-room, not-refused, result-written, number-is, buffer-is}
 use Rattle.rules.proofs.Limits.{within-parts}
 use Rattle.rules.specs.Calls.{called}
 use Rattle.rules.specs.Job.{described, jobSite, givenWater, fieldsSound, headerLength, marked, jobCauses}
@@ -26,7 +26,7 @@ use Rattle.rules.specs.Opening.{openedRecord, refusedOpening, descriptionWater,
 use Rattle.rules.specs.Outcome.{refusalOf}
 use Rattle.rules.specs.Quantities.{within, clockLimits, budgetLimits}
 use Rattle.rules.specs.Record.{recordState, sizesSound, isLayer}
-use Rattle.rules.specs.Refusals.{firstCause}
+use Rattle.rules.specs.Refusals.{firstCause, refusalNumber}
 use Rattle.rules.specs.Result.{Returned, withheld, resultBytes, resultSize, resultRefusal}
 use Rattle.rules.specs.Start.{openingState}
 use Rattle.rules.specs.declared.answers.Answer.{Answer}
@@ -95,9 +95,10 @@ module _ (job buffer : List ℕ) where
       ]) e
 
   -- a refused job
-  pub key-refused : (cause : Refusal) → (opening job) .answer ≡ Refused cause → key job buffer ≡ withheld cause buffer
-  unfolding refusalOf
-  key-refused cause e = by-answer (Refused cause) e
+  pub key-refused : (cause : Refusal) → (opening job) .answer ≡ Refused cause →
+      (refusalNumber cause ≡ (key job buffer) .number) × (buffer ≡ (key job buffer) .buffer)
+  unfolding refusalOf withheld
+  key-refused cause e = let k = by-answer (Refused cause) e in (number-is k, buffer-is k)
 
 -- ---- a job that opening accepts
 

@@ -9,7 +9,6 @@ use Rattle.result.specs.ResultLaws.{number-is, buffer-is}
 use Rattle.rules.proofs.answers.Answer.{the-type}
 use Rattle.rules.specs.Job.{described}
 use Rattle.rules.specs.Opening.{opening}
-use Rattle.rules.specs.Result.{withheld}
 use Rattle.rules.specs.declared.answers.Answer.{Answer}
 use Rattle.rules.specs.declared.answers.Answer.the-variants.{Done, Refused}
 use Rattle.rules.specs.declared.answers.Answered.{Answered}
@@ -27,14 +26,13 @@ enum-known-answer c = search needs
 withheld-requires : tie.Need-withheld-requires
 withheld-requires c κs = search needs
 
-returns : tie.Need-returns
-unfolding withheld
-returns c =
+returns-refused : tie.Need-returns
+returns-refused c =
     let k = c .before .before in
     let o = k .before .before .before in
     let s = o .before .before .before in
-    let e = key-refused (s .args .job .now) (s .args .result .now) _ (ap (λ (a : Answered). a .answer) (sym (o .«open» .ensures)) ∙ k .answer .given .1) in
-    (c .withheld .ensures ∙ number-is e, buffer-is e)
+    let (number, buffer) = key-refused (s .args .job .now) (s .args .result .now) _ (ap (λ (a : Answered). a .answer) (sym (o .«open» .ensures)) ∙ k .answer .given .1) in
+    (c .withheld .ensures ∙ number, buffer)
 
 -- ---- a job that is not refused
 
@@ -55,38 +53,41 @@ done c =
     opening-done _
     (λ cause e. not-refused _ cause (ap (λ (a : Answered). a .answer) (opened c .«open» .ensures) ∙ e) (c .match .keys2))
 
-field-requires : tie.Need-field-requires
-field-requires c κs = let whole = header-whole _ (done c) in (omega arith, omega arith)
+end-requires : tie.Need-field-requires
+end-requires c κs = let whole = header-whole _ (done c) in (omega arith, omega arith)
 
-field-requires-2 : tie.Need-field-requires-2
-field-requires-2 c κs = let whole = header-whole _ (done (c .before)) in (omega arith, omega arith)
+budget-requires : tie.Need-field-requires-2
+budget-requires c κs = let whole = header-whole _ (done (c .before)) in (omega arith, omega arith)
 
 -- end and budget as described
-end-is : (c : tie.After-field) → c .field .result ≡ (described (bytes-of (opened (c .before)))) .end
-unfolding described
-end-is c = c .field .ensures
+abbrev matched : tie.After-field2 → tie.At-match-keys2
+matched f = f .before .before
 
-budget-is : (c : tie.After-field2) → c .field2 .result ≡ (described (bytes-of (opened (c .before .before)))) .budget
+end-is : (f : tie.After-field2) → f .before .field .result ≡ (described (bytes-of (opened (matched f)))) .end
 unfolding described
-budget-is c = c .field2 .ensures
+end-is f = f .before .field .ensures
+
+budget-is : (f : tie.After-field2) → f .field2 .result ≡ (described (bytes-of (opened (matched f)))) .budget
+unfolding described
+budget-is f = f .field2 .ensures
 
 run-to-result-requires : tie.Need-run-to-result-requires
 run-to-result-requires c κs =
     let f = c .before in
-    let k = f .before .before in
+    let k = matched f in
     let (short, few) = end-and-budget _ (done k) in
-    can-run _ (done k) _ (opened k .«open» .ensures) _ _ (rw (end-is (f .before)) short) (rw (budget-is f) few)
+    can-run _ (done k) _ (opened k .«open» .ensures) _ _ (rw (end-is f) short) (rw (budget-is f) few)
 
 same-length : tie.Need-same-length
 same-length c = search needs
 
-returns-2 : tie.Need-returns-2
-returns-2 c =
+returns-run : tie.Need-returns-2
+returns-run c =
     let r = c .before .before in
     let f = r .before .before in
-    let k = f .before .before in
+    let k = matched f in
     let s = opened k .before .before .before in
-    let e = key-run _ (done k) _ (opened k .«open» .ensures) _ _ (end-is (f .before)) (budget-is f) (s .args .result .now) in
+    let e = key-run _ (done k) _ (opened k .«open» .ensures) _ _ (end-is f) (budget-is f) (s .args .result .now) in
     (r .run-to-result .ensures .0 ∙ number-is e, r .run-to-result .ensures .1 ∙ buffer-is e)
 
 pub consolidation-key-spec : {M : Type 1} → statement M
@@ -96,9 +97,9 @@ consolidation-key-spec =
     open-requires
     enum-known-answer
     withheld-requires
-    returns
-    field-requires
-    field-requires-2
+    returns-refused
+    end-requires
+    budget-requires
     run-to-result-requires
     same-length
-    returns-2)
+    returns-run)

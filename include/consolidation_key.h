@@ -1,0 +1,154 @@
+/* The consolidation key: large strain consolidation of one soil layer, worked in whole numbers.
+ *
+ * A job describes a layer, its loading, an end time and a budget of steps. The function opens the layer, runs it
+ * to the end or until the budget is used, and writes the key: what the layer is then.
+ *
+ * Bytes
+ *
+ * Numbers are little-endian, the least byte first, on every machine; they need no alignment. Fields of 8 bytes are
+ * unsigned unless marked signed, which is two's complement. Lengths and volumes per unit area are in nanometres
+ * (nm), stresses and pressures in millipascals (mPa), times in seconds (s), conductivities in femtometres per
+ * second (fm/s), void ratios in hundred-millionths (100,000,000 is a void ratio of 1), specific gravity in
+ * thousandths.
+ *
+ * Job
+ *
+ *   at  bytes
+ *    0    3   the letters LSC
+ *    3    2   version, 1
+ *    5    1   top face: 0 closed, 1 drained
+ *    6    1   bottom face: 0 closed, 1 drained
+ *    7    1   N, the number of elements, 1 to 128
+ *    8    1   C1, points of the compressibility curve, 2 to 64
+ *    9    1   C2, points of the conductivity curve, 2 to 64
+ *   10    1   T, points of the load table, 1 to 64
+ *   11    1   start: 0 with the water given, 1 at rest under the first load of the table
+ *   12    2   specific gravity of the solids, 1,000 to 5,000
+ *   14    2   0
+ *   16    8   top level: how high the water over the layer stands above the layer's base, 0 to 200,000,000,000 nm
+ *   24    8   bottom level: the same of the water that a drained bottom meets; 0 if the bottom is closed
+ *   32    8   end, 0 to 3,000,000,000 s
+ *   40    8   budget, 0 to 1,000,000 steps
+ *   48        N pairs, lowest element first: solids, 100,000 to 100,000,000 nm; water, 0 to 1,000,000,000 nm,
+ *             and 0 in start 1
+ *             C1 pairs: effective stress, 0 to 2,000,000,000 mPa, rising from point to point; void ratio, 1 to
+ *             1,000,000,000, falling
+ *             C2 pairs: void ratio, in the same limits, rising; conductivity, 1 to 1,000,000,000 fm/s, never
+ *             falling. The void ratios of the first curve lie within those of the second.
+ *             T pairs: time, 0 for the first and rising, at most 3,000,000,000 s; load, 0 to 2,000,000,000 mPa
+ *
+ * Each number of a pair has 8 bytes. A job has 48 + 16 x (N + C1 + C2 + T) bytes. The load between two points of
+ * the table goes straight from one to the other; after the last point it stays.
+ *
+ * Result
+ *
+ *   at  bytes
+ *    0    3   the letters LSR
+ *    3    2   version, 1
+ *    5    1   stop: why the run ended, see below
+ *    6    1   N
+ *    7    1   0
+ *    8    8   clock, s
+ *   16    8   number of steps taken
+ *   24    8   load, mPa
+ *   32    8   water that left through the top, nm, signed: negative if it came in
+ *   40    8   water that left through the bottom, nm, signed
+ *   48    8   settlement, nm, signed: negative if the layer rose
+ *   56        for each element, lowest first, 40 bytes:
+ *               0    8   water, nm
+ *               8    8   void ratio, hundred-millionths
+ *              16    8   effective stress, mPa
+ *              24    8   total stress, mPa, signed
+ *              32    8   pore pressure, mPa, signed
+ *
+ * A result has 56 + 40 x N bytes. Stresses and pressures are those at half the element's height.
+ */
+#ifndef CONSOLIDATION_KEY_H
+#define CONSOLIDATION_KEY_H
+
+#include <stddef.h>
+#include <stdint.h>
+
+#ifdef __cplusplus
+extern "C" {
+#endif
+
+/* Sizes, in bytes but for the most elements and points. */
+enum {
+    CONSOLIDATION_JOB_HEAD = 48,
+    CONSOLIDATION_JOB_PAIR = 16,
+    CONSOLIDATION_RESULT_HEAD = 56,
+    CONSOLIDATION_RESULT_ELEMENT = 40,
+    CONSOLIDATION_MOST_ELEMENTS = 128,
+    CONSOLIDATION_MOST_POINTS = 64,
+    CONSOLIDATION_MOST_JOB_BYTES = 5168,
+    CONSOLIDATION_MOST_RESULT_BYTES = 5176
+};
+
+/* Bytes of a job with so many elements and points, and of the result of a job with so many elements. */
+#define CONSOLIDATION_JOB_BYTES(elements, curve1, curve2, table) \
+    ((size_t)48 + (size_t)16 * ((size_t)(elements) + (size_t)(curve1) + (size_t)(curve2) + (size_t)(table)))
+#define CONSOLIDATION_RESULT_BYTES(elements) ((size_t)56 + (size_t)40 * (size_t)(elements))
+
+/* What the function returns. Causes are tested in the order of their numbers, and the first that holds is the
+ * answer. */
+enum {
+    CONSOLIDATION_DONE = 0,               /* the result is written */
+    CONSOLIDATION_NO_JOB = 1,             /* fewer than 48 bytes, or they do not begin with LSC */
+    CONSOLIDATION_BAD_VERSION = 2,        /* a version other than 1 */
+    CONSOLIDATION_BAD_HEADER = 3,         /* a face, count, start, specific gravity or spare byte (5 to 15) has a
+                                             value that it cannot have */
+    CONSOLIDATION_BAD_LENGTH = 4,         /* the length is not what the counts ask for */
+    CONSOLIDATION_BAD_FIELD = 5,          /* a level, the end, the budget, a solids or a water height is outside its
+                                             limits; or the bottom level of a closed bottom, or a water height in
+                                             start 1, is not 0 */
+    CONSOLIDATION_BAD_COMPRESSIBILITY = 6, /* a point outside its limits, stresses that do not rise or void ratios
+                                             that do not fall */
+    CONSOLIDATION_BAD_CONDUCTIVITY = 7,   /* a point outside its limits, void ratios that do not rise, conductivities
+                                             that fall, or void ratios of the first curve that are not covered */
+    CONSOLIDATION_BAD_LOAD_TABLE = 8,     /* a point outside its limits, a first time other than 0, or times that do
+                                             not rise */
+    CONSOLIDATION_BAD_START = 9,          /* start 0: an element's void ratio is off the compressibility curve;
+                                             start 1: the curve has no state of rest for an element */
+    CONSOLIDATION_SHORT_RESULT = 10       /* result_length is less than the result has */
+};
+
+/* Byte 5 of a result. */
+enum {
+    CONSOLIDATION_AT_END = 0,             /* the clock is at the job's end */
+    CONSOLIDATION_BUDGET_USED = 1,        /* the budget was used before the end */
+    CONSOLIDATION_NO_STEP = 2,            /* even a step of one second would be too long */
+    CONSOLIDATION_OFF_CURVE = 3           /* the next step would leave the compressibility curve */
+};
+
+/* Works the job and writes its key at the beginning of `result`.
+ *
+ * `job` has `job_length` bytes, which are read and not changed; `result` has `result_length` bytes, which may be
+ * more than the result needs. The two must not overlap. Neither pointer is kept.
+ *
+ * Returns 0 when the result is written: then its 56 + 40 x N bytes are, and those after it are as they were. Any
+ * stop counts as written, so look at byte 5. Otherwise it returns the number of the cause, 1 to 10, and all of
+ * `result` is as it was. No other number is returned.
+ *
+ * No memory is allocated and no state is kept from one call to the next. The function is re-entrant: threads may
+ * call it at the same time, each with a result of its own. A call takes time in proportion to N and to the steps
+ * taken, of which there are at most 1,000,000.
+ *
+ * Example, of a job that was read from a file:
+ *
+ *     uint8_t job[CONSOLIDATION_MOST_JOB_BYTES + 1];
+ *     uint8_t result[CONSOLIDATION_MOST_RESULT_BYTES];
+ *     size_t length = fread(job, 1, sizeof job, file);
+ *     uint32_t cause = consolidation_key(job, length, result, sizeof result);
+ *     if (cause != CONSOLIDATION_DONE)
+ *         fprintf(stderr, "refused %u\n", (unsigned)cause);
+ *     else
+ *         fwrite(result, 1, CONSOLIDATION_RESULT_BYTES(result[6]), stdout);
+ */
+uint32_t consolidation_key(const uint8_t *job, size_t job_length, uint8_t *result, size_t result_length);
+
+#ifdef __cplusplus
+}
+#endif
+
+#endif

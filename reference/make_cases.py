@@ -1,0 +1,174 @@
+#!/usr/bin/env python3
+"""Writes cases for tests/harness.c to standard output: jobs, lengths of result buffers, and the reference's answers.
+
+    python3 make_cases.py SEED COUNT
+
+The same seed and count always give the same cases, at least COUNT of them.
+
+OUTPUT  Words are 64 bits, little-endian. For each case: 1; bytes of the job; room (bytes of the result buffer); number
+        that the key has to return; bytes that it has to write at the start of the buffer, none if the job is refused;
+        the job; the bytes to be written. After the last case a 0 and the number of cases.
+"""
+
+from __future__ import annotations
+
+import argparse
+import os
+import struct
+import sys
+from typing import Callable, Iterator, List, Tuple
+
+HERE = os.path.dirname(os.path.abspath(__file__))
+sys.path.insert(0, HERE)
+
+import reference as ref  # noqa: E402
+from make_scenarios import words  # noqa: E402
+from make_vectors import Vector, needed  # noqa: E402
+
+SHORT_RUN, LONG_RUN = 150, 20_000  # element-steps of a run
+SMALL = 400                        # bytes of a small job
+MOST_ROOM = 8_192
+
+
+def case_bytes(vector: Vector) -> bytes:
+    """A case with the reference's answer."""
+    buffer = bytearray(vector.room)
+    number = ref.key_into(vector.job, buffer)
+    result = b"" if number else bytes(buffer[:needed(vector.job)])
+    return words([1, len(vector.job), vector.room, number, len(result)]) + vector.job + result
+
+
+# ----------------------------------------------------------------------------------------------------------------
+# Families of cases, drawn in groups
+# ----------------------------------------------------------------------------------------------------------------
+
+def near_enough(chance: ref.Chance, job: bytes) -> int:
+    """A buffer's length: mostly enough for the job."""
+    return max(0, needed(job) + chance.pick([0, 0, 0, 0, 0, 1, 3, 40, -1, -40]))
+
+
+def small_job(chance: ref.Chance) -> bytes:
+    """A small job that is accepted."""
+    while True:
+        job = ref.job_bytes(ref.make_job(chance))
+        if len(job) <= SMALL and ref.open_job(job)[0] == 0:
+            return job
+
+
+def sound(chance: ref.Chance) -> Iterator[Vector]:
+    """A job that is mostly accepted."""
+    job = ref.job_bytes(ref.make_job(chance))
+    yield Vector(job, near_enough(chance, job))
+
+
+def long_run(chance: ref.Chance) -> Iterator[Vector]:
+    """A small job with a longer run."""
+    ref.AFFORDABLE = LONG_RUN
+    job = small_job(chance)
+    ref.AFFORDABLE = SHORT_RUN
+    yield Vector(job, needed(job))
+
+
+def damaged(chance: ref.Chance) -> Iterator[Vector]:
+    """A job damaged in each way, and twice."""
+    for damage in ref.DAMAGES:
+        job = ref.affordable_job(damage(chance, ref.make_job(chance)))
+        yield Vector(job, near_enough(chance, job))
+    job = chance.pick(ref.DAMAGES)(chance, ref.make_job(chance))
+    offset = chance.between(0, len(job))
+    job = ref.affordable_job(ref.changed(job, offset, bytes([chance.between(0, 255)]) if offset < len(job) else b""))
+    yield Vector(job, near_enough(chance, job))
+
+
+def headers(chance: ref.Chance) -> Iterator[Vector]:
+    """Every byte of a job's header changed to other values."""
+    job = small_job(chance)
+    for offset in range(ref.JOB_HEADER):
+        old = job[offset]
+        values = {0, 1, 2, 64, 65, 128, 129, 255, old ^ 1, old ^ 128, (old + 1) % 256, (old - 1) % 256}
+        for value in sorted(values - {old}):
+            changed = ref.affordable_job(ref.changed(job, offset, bytes([value])))
+            yield Vector(changed, needed(job))
+
+
+def truncations(chance: ref.Chance) -> Iterator[Vector]:
+    """Every length that a job can be cut to, and a few that are too long."""
+    job = small_job(chance)
+    for length in range(len(job)):
+        yield Vector(job[:length], needed(job))
+    for more in (1, 7, 8, 15, 16, 17, 5_000):
+        yield Vector(job + bytes(more), needed(job))
+
+
+def rooms(chance: ref.Chance) -> Iterator[Vector]:
+    """Buffers of every length about the needed one, none at all, a byte, and a large one."""
+    job = ref.job_bytes(ref.make_job(chance))
+    for more in range(-3, 4):
+        yield Vector(job, needed(job) + more)
+    for room in (0, 1, 56, MOST_ROOM):
+        yield Vector(job, room)
+
+
+def random_bytes(chance: ref.Chance) -> Iterator[Vector]:
+    """Any bytes, with and without a right mark, header and length."""
+    def some(count: int) -> bytes:
+        return b"".join(bytes([chance.draw() & 255]) for _ in range(count))
+
+    right = b"LSC" + struct.pack("<H7BH", 1, 1, 1, 1, 2, 2, 1, chance.between(0, 1), 2_650) + b"\0\0"
+    for head in (b"", b"LSC", b"LSC\1\0", right[:12]):
+        yield Vector(head + some(chance.between(0, 200)), chance.between(0, 200))
+    body = b"".join(words([chance.scaled(0, chance.pick([10**3, 10**9, ref.U64_MAX]))]) for _ in range(16))
+    job = ref.affordable_job(right + body)
+    yield Vector(job, needed(job))
+
+
+# Families in the order of the stream, with their shares of the count in hundredths; sound jobs make up the rest.
+FAMILIES: List[Tuple[int, Callable[[ref.Chance], Iterator[Vector]]]] = [
+    (6, truncations), (16, headers), (10, rooms), (4, random_bytes), (26, damaged)]
+LONG_RUNS = 1_000  # one longer run in so many cases
+
+
+def cases(seed: int, count: int) -> Iterator[Vector]:
+    """At least so many cases."""
+    ref.AFFORDABLE = SHORT_RUN
+    made = index = 0
+
+    def group(family: Callable[[ref.Chance], Iterator[Vector]]) -> Iterator[Vector]:
+        nonlocal made, index
+        index += 1
+        for vector in family(ref.Chance(seed, index)):
+            made += 1
+            yield vector
+
+    bound = 0
+    for share, family in FAMILIES:
+        bound += count * share // 100
+        while made < bound:
+            yield from group(family)
+    for _ in range(count // LONG_RUNS):
+        yield from group(long_run)
+    while made < count:
+        yield from group(sound)
+
+
+def main() -> int:
+    """Write the cases of a command line."""
+    parser = argparse.ArgumentParser(description=__doc__, formatter_class=argparse.RawDescriptionHelpFormatter)
+    parser.add_argument("seed", type=int, metavar="SEED", help="a whole number of 0 or more")
+    parser.add_argument("count", type=int, metavar="COUNT", help="how many cases at least")
+    chosen = parser.parse_args()
+    written = 0
+    try:
+        for vector in cases(chosen.seed, chosen.count):
+            sys.stdout.buffer.write(case_bytes(vector))
+            written += 1
+        sys.stdout.buffer.write(words([0, written]))
+        sys.stdout.flush()
+    except BrokenPipeError:  # the reader has seen enough
+        os.dup2(os.open(os.devnull, os.O_WRONLY), sys.stdout.fileno())
+        return 1
+    return 0
+
+
+if __name__ == "__main__":
+    sys.exit(main())

@@ -1,0 +1,138 @@
+"""Asks the program for the key of a job, and reads what it writes. Nothing of a key is computed here."""
+
+from __future__ import annotations
+
+import os
+import re
+import struct
+import subprocess
+from typing import List, NamedTuple, Union
+
+YEAR_DAYS = 365
+
+STOPS = {
+    0: "the clock is at the end",
+    1: "the budget of steps is used",
+    2: "even a step of one second is too long",
+    3: "the next step would leave the compressibility curve",
+}
+
+REFUSALS = {
+    1: "this is no job: fewer than 48 bytes, or they do not begin with LSC",
+    2: "the version is not 1",
+    3: "a face, a count, the start, the specific gravity or a spare byte has a value that it cannot have",
+    4: "the length is not what the counts ask for",
+    5: "a level, the end, the budget or a height is outside its limits, or a field that has to be 0 is not",
+    6: "the compressibility curve is outside its limits, or its stresses do not rise or its void ratios do not fall",
+    7: "the conductivity curve is outside its limits or out of order, or does not cover the compressibility curve",
+    8: "the load table is outside its limits, does not begin at time 0, or its times do not rise",
+    9: "an element has no start on the compressibility curve",
+    10: "the buffer is shorter than the result",
+}
+
+
+class Element(NamedTuple):
+    """What a key says of one element: nm, hundred-millionths, and mPa."""
+
+    water: int
+    void_ratio: int
+    effective_stress: int
+    total_stress: int
+    pore_pressure: int
+
+
+class Key(NamedTuple):
+    """A key: s, mPa and nm; the elements lowest first."""
+
+    stop: int
+    clock: int
+    steps: int
+    load: int
+    top_outflow: int
+    bottom_outflow: int
+    settlement: int
+    elements: List[Element]
+
+
+class Refusal(NamedTuple):
+    """A key withheld."""
+
+    number: int
+
+    def words(self) -> str:
+        """The cause in words."""
+        return REFUSALS.get(self.number, "a cause of another number")
+
+
+class NoAnswer(Exception):
+    """The job cannot be read, the program cannot be run, or it writes neither a key nor a refusal."""
+
+
+def job_bytes(path: str) -> bytes:
+    """The bytes of a job file."""
+    try:
+        with open(path, "rb") as source:
+            return source.read()
+    except OSError as error:
+        raise NoAnswer("%s: %s" % (path, error.strerror)) from error
+
+
+def ask(program: str, job: bytes) -> Union[Key, Refusal]:
+    """What the program answers to a job."""
+    command = os.path.abspath(program) if os.path.exists(program) else program
+    try:
+        ended = subprocess.run([command], input=job, stdout=subprocess.PIPE, check=False)
+    except OSError as error:
+        raise NoAnswer("%s: %s" % (program, error.strerror)) from error
+    return read_answer(ended.stdout)
+
+
+def read_answer(answer: bytes) -> Union[Key, Refusal]:
+    """A key or a refusal from the bytes that the program writes."""
+    refused = re.fullmatch(rb"refused ([0-9]+)\n", answer)
+    if refused:
+        return Refusal(int(refused.group(1)))
+    if len(answer) < 56 or answer[:5] != b"LSR\1\0" or len(answer) != 56 + 40 * answer[6]:
+        raise NoAnswer("the program wrote neither a key nor a refusal (%d bytes)" % len(answer))
+    rows = [Element(*struct.unpack_from("<QQQqq", answer, at)) for at in range(56, len(answer), 40)]
+    return Key(answer[5], *struct.unpack_from("<QQQqqq", answer, 8), rows)
+
+
+def stop_words(stop: int) -> str:
+    """Why a run ended, in words."""
+    return STOPS.get(stop, "a stop of another number")
+
+
+def shifted(number: int, places: int) -> str:
+    """A whole number with its decimal point moved to the left."""
+    whole, part = divmod(abs(number), 10 ** places)
+    return "%s%s.%0*d" % ("-" if number < 0 else "", format(whole, ","), places, part)
+
+
+def millimetres(nanometres: int) -> str:
+    """A length in mm."""
+    return shifted(nanometres, 6)
+
+
+def kilopascals(millipascals: int) -> str:
+    """A stress or pressure in kPa."""
+    return shifted(millipascals, 6)
+
+
+def void_ratio(hundred_millionths: int) -> str:
+    """A void ratio."""
+    return shifted(hundred_millionths, 8)
+
+
+def counted(number: int, noun: str) -> str:
+    """A number with its noun, which takes an s unless there is one."""
+    return "%s %s%s" % (format(number, ","), noun, "" if number == 1 else "s")
+
+
+def span(seconds: int) -> str:
+    """A time in years of 365 days, days, hours, minutes and seconds."""
+    minutes, second = divmod(seconds, 60)
+    hours, minute = divmod(minutes, 60)
+    days, hour = divmod(hours, 24)
+    years, day = divmod(days, YEAR_DAYS)
+    return "%s, %s, %02d:%02d:%02d" % (counted(years, "year"), counted(day, "day"), hour, minute, second)
