@@ -46,6 +46,7 @@ pub fn write_layer(layer: Record, stop: Stop, steps: u64, out: &mut [u8])
     let bottom_outflow = layer.bottom_outflow;
     let starting = layer.starting_water;
     let left = balance::total_water(n, &layer.water);
+    let settlement = starting as i64 - left as i64;
     head::write_head(
         out,
         stop,
@@ -55,7 +56,7 @@ pub fn write_layer(layer: Record, stop: Stop, steps: u64, out: &mut [u8])
         load.0,
         top_outflow,
         bottom_outflow,
-        starting as i64 - left as i64,
+        settlement,
     );
     let mut burden = [0u64; 128];
     weights::burdens(n, layer.gravity, &layer.solids, &mut burden);

@@ -55,13 +55,13 @@ total-water-requires c κs =
     let s = c .before .before .before .before .before .before .before .before in
     (counted (r s) (is s) .1, site-is (r s) (is s) .sizes .water-most)
 
-cast-write-head : tie.Need-cast-write-head
-cast-write-head c =
-    let s = c .before .before .before .before .before .before .before .before .before .before in
+cast-settlement : tie.Need-cast-settlement
+cast-settlement c =
+    let s = c .before .before .before .before .before .before .before .before .before in
     within-fits {n = 128_000_000_000} tt (within-le (within-pos (r s .«starting_water»)) (state-is (r s) (is s) .starting-most))
 
-cast-write-head-2 : tie.Need-cast-write-head-2
-cast-write-head-2 c = search needs
+cast-settlement-2 : tie.Need-cast-settlement-2
+cast-settlement-2 c = search needs
 
 -- the water left, and that which is gone
 module _ (c : tie.After-total-water) where
@@ -80,8 +80,8 @@ module _ (c : tie.After-total-water) where
       (within-le (within-sub (within-pos (r s .«starting_water»)) (within-pos left))
       (omega (arith, state-is (r s) (is s) .starting-most, c .total-water .ensures .1)))
 
-sub-write-head : tie.Need-sub-write-head
-sub-write-head c = simp (starting-is (s (c .before)), left-is (c .before)) (gone-fits (c .before))
+sub-settlement : tie.Need-sub-settlement
+sub-settlement c = simp (starting-is (s c), left-is c) (gone-fits c)
 
 -- there is room
 room : (s : tie.Start) → 56 + 40 * r s .elements ≤ length (s .args .out .now)
@@ -153,9 +153,9 @@ write-layer-spec =
     tie.close
     (tie.spec
     total-water-requires
-    cast-write-head
-    cast-write-head-2
-    sub-write-head
+    cast-settlement
+    cast-settlement-2
+    sub-settlement
     write-head-requires
     burdens-requires
     write-elements-requires

@@ -1,0 +1,2 @@
+-- The proofs of `consolidate`.
+pub mod Program

@@ -1,0 +1,166 @@
+-- What the key returns, and what is written for it.
+use Prim.Native.Nat.{ℕ, _+_, _/_, _%_, _≤_, _<_}
+use native.Mathlib.Omega.{arith}
+use borrow.Author.Tests.{lt-ltb, le-ltb, eq-eqb, ne-eqb}
+use lib.Dec.{eqb}
+use lib.ListN.{length, take, length-replicate}
+use lib.Seq.{sets, length-sets, take-all, take-append-seam}
+use mathlib.Core.Bool.{Bool, true, false}
+use mathlib.Core.List.{List, [], _∷_}
+use mathlib.Core.Option.{Option, none, some}
+use mathlib.Core.Path.{_≡_, sym, ap, _∙_}
+use Rattle.answers.specs.Causes.{cause-numbered}
+use Rattle.claims.specs.Described.{described-sound}
+use Rattle.claims.specs.Opened.{opened}
+use Rattle.encoding.specs.Stores.{sets-front}
+use Rattle.job.specs.SoundHeader.{sound-header}
+use Rattle.key.specs.KeyLaws.{opening-done, key-refused, header-whole}
+use Rattle.numbers.specs.Arrays.{zeros, overlaid}
+use Rattle.rules.specs.Calls.{called}
+use Rattle.rules.specs.Job.{described, headerKept, headerLength}
+use Rattle.rules.specs.Key.{resultOf, runToResult, key}
+use Rattle.rules.specs.Opening.{opening}
+use Rattle.rules.specs.Outcome.{refusalOf}
+use Rattle.rules.specs.Program.{digits, refusedLine, inputMost, programOutput}
+use Rattle.rules.specs.Refusals.{refusalNumber}
+use Rattle.rules.specs.Result.{Returned, withheld, resultBytes, resultSize, resultRefusal, result}
+use Rattle.rules.specs.declared.answers.Answer.{Answer}
+use Rattle.rules.specs.declared.answers.Answer.the-variants.{Done, Ran, Refused}
+use Rattle.rules.specs.declared.answers.Call.the-variants.{Run}
+use Rattle.rules.specs.declared.answers.Refusal.{Refusal}
+use Rattle.rules.specs.declared.answers.Stop.{Stop}
+use Rattle.rules.specs.declared.record.Record.{Record}
+
+-- ---- the number
+
+module _ (buffer : List ℕ) where
+  -- withheld for a cause, or not
+  abbrev unless : Option Refusal → Returned → Returned
+  unless c x = elim c [ some cause ↦ withheld cause buffer | none ↦ x ]
+
+  unless-few : (cause : Option Refusal) (x : Returned) → x .number ≤ 16 → (unless cause x) .number ≤ 16
+  unfolding withheld
+  unless-few none x h = h
+  unless-few (some cause) x h = cause-numbered cause .1
+
+  result-few : (r : Record) (stop : Stop) (steps : ℕ) → (result r stop steps buffer) .number ≤ 16
+  unfolding result
+  result-few r stop steps =
+      unless-few (resultRefusal r (length buffer)) (record { number = 0; buffer = overlaid (resultBytes r stop steps) buffer }) (omega arith)
+
+  result-of-few : (answer : Answer) (r : Record) → (resultOf answer r buffer) .number ≤ 16
+  unfolding resultOf withheld
+  result-of-few Done r = omega arith
+  result-of-few (Ran stop steps) r = result-few r stop steps
+  result-of-few (Refused cause) r = cause-numbered cause .1
+
+  run-few : (r : Record) (end budget : ℕ) → (runToResult r end budget buffer) .number ≤ 16
+  unfolding runToResult
+  run-few r end budget =
+      let run = called r (Run end budget) in
+      unless-few (resultRefusal r (length buffer)) (resultOf (run .answer) (run .after) buffer) (result-of-few (run .answer) (run .after))
+
+  -- there are sixteen causes
+  pub number-few : (job : List ℕ) → (key job buffer) .number ≤ 16
+  unfolding key
+  number-few job =
+      let opened = opening job in
+      let d = described job in
+      unless-few (refusalOf (opened .answer)) (runToResult (opened .after) (d .end) (d .budget) buffer) (run-few (opened .after) (d .end) (d .budget))
+
+-- ---- a job whose key has number 0
+
+module _ (job buffer : List ℕ) (e : (key job buffer) .number ≡ 0) where
+  -- opening accepted it
+  accepted : (opening job) .answer ≡ Done
+  unfolding withheld
+  accepted =
+      opening-done job
+      (λ cause refused.
+      let (numbered, _) = cause-numbered cause in
+      let same : refusalNumber cause ≡ 0 = key-refused job buffer cause refused .0 ∙ e in
+      omega arith)
+
+  -- it has a whole header
+  pub whole : headerLength ≤ length job
+  whole = header-whole job accepted
+
+  -- which says at most 128 elements
+  pub elements-few : (described job) .elements ≤ 128
+  unfolding headerKept
+  elements-few =
+      let d = described job in
+      sound-header d.top d.bottom d.elements (d .«compressibility_points») (d .«conductivity_points») (d .«table_points») d.start d.gravity
+      (described-sound job (opened job accepted .no-cause) .header) .elements-kept .most
+
+  -- whose result is no longer than the longest
+  pub size-few : resultSize ((described job) .elements) ≤ 5_176
+  unfolding resultSize
+  size-few = omega (arith, elements-few)
+
+-- ---- what is written
+
+-- the result's bytes, or the refusal
+abbrev written : (job : List ℕ) → Returned → (accepted : Bool) → List ℕ
+written job x accepted =
+    elim accepted [
+      | true ↦ take (resultSize ((described job) .elements)) (x .buffer)
+      | false ↦ refusedLine (x .number)
+    ]
+
+module _ (job : List ℕ) (short : length job ≤ inputMost) where
+  abbrev returned : Returned
+  returned = key job (zeros 5_176)
+
+  output-is : programOutput job ≡ written job returned (eqb (returned .number) 0)
+  unfolding programOutput
+  output-is =
+      ap (λ (j : List ℕ). let x = key j (zeros 5_176) in written j x (eqb (x .number) 0)) (take-all inputMost job short)
+
+  by-test : (b : Bool) → eqb (returned .number) 0 ≡ b → programOutput job ≡ written job returned b
+  by-test b e = output-is ∙ ap (λ (b : Bool). written job returned b) e
+
+-- a blank buffer's length
+pub room-is : {buffer : List ℕ} → buffer ≡ zeros 5_176 → length buffer ≡ 5_176
+unfolding zeros
+room-is blank = rw blank (length-replicate {A = ℕ} 5_176 0)
+
+-- what a key in a blank buffer has written
+module _ (job buffer : List ℕ) (short : length job ≤ inputMost) (blank : buffer ≡ zeros 5_176) (number : ℕ) (out : List ℕ)
+    (number-is : number ≡ (key job buffer) .number) (out-is : out ≡ (key job buffer) .buffer) where
+  -- number 0: the first bytes of the buffer
+  pub result-written : (size : ℕ) → number ≡ 0 → size ≡ resultSize ((described job) .elements) → take size out ≡ programOutput job
+  result-written size e s =
+      let zero : (key job (zeros 5_176)) .number ≡ 0 = rw (← blank) (sym number-is ∙ e) in
+      rw (s, out-is, blank) (sym (by-test job short true (eq-eqb _ 0 zero)))
+
+  -- any other: the refusal
+  pub refusal-written : (number ≡ 0 → ⊥) → refusedLine number ≡ programOutput job
+  refusal-written h =
+      let same : number ≡ (key job (zeros 5_176)) .number = rw (← blank) number-is in
+      rw same (sym (by-test job short false (ne-eqb _ 0 (λ z. h (same ∙ z)))))
+
+-- ---- a refusal's line
+
+-- a list stored from the first place on
+front : (vs l : List ℕ) → length vs ≤ length l → take (length vs) (sets l 0 vs) ≡ vs
+unfolding overlaid
+front vs l h = rw (sets-front l vs h) (take-append-seam vs _)
+
+stored : (vs l : List ℕ) → length vs ≤ length l → (take (length vs) (sets l 0 vs) ≡ vs) × (length vs ≤ length (sets l 0 vs))
+stored vs l h = (front vs l h, rw (length-sets l 0 vs) h)
+
+module _ (number : ℕ) (l : List ℕ) (room : 16 ≤ length l) where
+  -- one digit
+  pub line-of-10 : number < 10 →
+      let out = sets l 0 (114 ∷ 101 ∷ 102 ∷ 117 ∷ 115 ∷ 101 ∷ 100 ∷ 32 ∷ (48 + number) ∷ 10 ∷ []) in
+      (take 10 out ≡ refusedLine number) × (10 ≤ length out)
+  unfolding refusedLine digits
+  line-of-10 h = rw (lt-ltb number 10 h) (stored _ l (omega arith))
+
+  -- two digits
+  pub line-of-11 : 10 ≤ number →
+      let out = sets l 0 (114 ∷ 101 ∷ 102 ∷ 117 ∷ 115 ∷ 101 ∷ 100 ∷ 32 ∷ (48 + number / 10) ∷ (48 + number % 10) ∷ 10 ∷ []) in
+      (take 11 out ≡ refusedLine number) × (11 ≤ length out)
+  unfolding refusedLine digits
+  line-of-11 h = rw (le-ltb number 10 h) (stored _ l (omega arith))
