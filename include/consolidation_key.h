@@ -124,15 +124,17 @@ enum {
 /* Works the job and writes its key at the beginning of `result`.
  *
  * `job` has `job_length` bytes, which are read and not changed; `result` has `result_length` bytes, which may be
- * more than the result needs. The two must not overlap. Neither pointer is kept.
+ * more than the result needs. Neither pointer may be null, whatever its length. The two must not overlap. Neither
+ * pointer is kept.
  *
  * Returns 0 when the result is written: then its 56 + 40 x N bytes are, and those after it are as they were. Any
  * stop counts as written, so look at byte 5. Otherwise it returns the number of the cause, 1 to 10, and all of
  * `result` is as it was. No other number is returned.
  *
  * No memory is allocated and no state is kept from one call to the next. The function is re-entrant: threads may
- * call it at the same time, each with a result of its own. A call takes time in proportion to N and to the steps
- * taken, of which there are at most 1,000,000.
+ * call it at the same time, each with a result of its own. It uses less than 40 KiB of stack. A call takes time at
+ * most in proportion to the steps taken, of which there are at most 1,000,000, times N and the points of the curves
+ * and the table.
  *
  * Example, of a job that was read from a file:
  *

@@ -3,18 +3,18 @@ use Prim.Native.Nat.{ℕ, _+_, _/_, _%_, _≤_, _<_}
 use native.Mathlib.Omega.{arith}
 use borrow.Author.Tests.{lt-ltb, le-ltb, eq-eqb, ne-eqb}
 use lib.Dec.{eqb}
-use lib.ListN.{length, take, length-replicate}
-use lib.Seq.{sets, length-sets, take-all, take-append-seam}
+use lib.ListN.{length, take, drop, length-append, length-replicate}
+use lib.Seq.{sets, take-all, length-take-le}
 use mathlib.Core.Bool.{Bool, true, false}
 use mathlib.Core.List.{List, [], _∷_}
 use mathlib.Core.Option.{Option, none, some}
-use mathlib.Core.Path.{_≡_, sym, ap, _∙_}
+use mathlib.Core.Path.{_≡_, refl, sym, ap, _∙_}
 use Rattle.answers.specs.Causes.{cause-numbered}
 use Rattle.claims.specs.Described.{described-sound}
 use Rattle.claims.specs.Opened.{opened}
 use Rattle.encoding.specs.Stores.{sets-front}
 use Rattle.job.specs.SoundHeader.{sound-header}
-use Rattle.key.specs.KeyLaws.{opening-done, key-refused, header-whole}
+use Rattle.key.specs.KeyLaws.{opening-done, key-refused, header-whole, key-leaves}
 use Rattle.numbers.specs.Arrays.{zeros, overlaid}
 use Rattle.rules.specs.Calls.{called}
 use Rattle.rules.specs.Job.{described, headerKept, headerLength}
@@ -129,38 +129,50 @@ room-is blank = rw blank (length-replicate {A = ℕ} 5_176 0)
 module _ (job buffer : List ℕ) (short : length job ≤ inputMost) (blank : buffer ≡ zeros 5_176) (number : ℕ) (out : List ℕ)
     (number-is : number ≡ (key job buffer) .number) (out-is : out ≡ (key job buffer) .buffer) where
   -- number 0: the first bytes of the buffer
-  pub result-written : (size : ℕ) → number ≡ 0 → size ≡ resultSize ((described job) .elements) → take size out ≡ programOutput job
-  result-written size e s =
+  front-is : (size : ℕ) → number ≡ 0 → size ≡ resultSize ((described job) .elements) → take size out ≡ programOutput job
+  front-is size e s =
       let zero : (key job (zeros 5_176)) .number ≡ 0 = rw (← blank) (sym number-is ∙ e) in
       rw (s, out-is, blank) (sym (by-test job short true (eq-eqb _ 0 zero)))
 
+  pub result-written : (size : ℕ) → number ≡ 0 → size ≡ resultSize ((described job) .elements) → length out ≡ length buffer →
+      (out ≡ overlaid (programOutput job) buffer) × (size ≡ length (programOutput job))
+  result-written size e s kept =
+      let front = front-is size e s in
+      let few = size-few job buffer (sym number-is ∙ e) in
+      let fits : size ≤ length out = omega (arith, s, few, room-is blank, kept) in
+      (rw (← front, s, out-is) (key-leaves job buffer .past), rw (← front) (sym (length-take-le size out fits)))
+
   -- any other: the refusal
-  pub refusal-written : (number ≡ 0 → ⊥) → refusedLine number ≡ programOutput job
-  refusal-written h =
+  refusal-is : (number ≡ 0 → ⊥) → refusedLine number ≡ programOutput job
+  refusal-is h =
       let same : number ≡ (key job (zeros 5_176)) .number = rw (← blank) number-is in
       rw same (sym (by-test job short false (ne-eqb _ 0 (λ z. h (same ∙ z)))))
 
--- ---- a refusal's line
+  pub refusal-written : (last : List ℕ) (size : ℕ) → (number ≡ 0 → ⊥) →
+      (last ≡ overlaid (refusedLine number) out) × (size ≡ length (refusedLine number)) →
+      (last ≡ overlaid (programOutput job) buffer) × (size ≡ length (programOutput job))
+  refusal-written last size h line =
+      let left : out ≡ buffer = out-is ∙ key-leaves job buffer .withheld-whole (rw number-is at h) in
+      (line .0 ∙ rw (refusal-is h, left) refl, line .1 ∙ ap length (refusal-is h))
 
--- a list stored from the first place on
-front : (vs l : List ℕ) → length vs ≤ length l → take (length vs) (sets l 0 vs) ≡ vs
+-- what is written fits where it is written
+pub written-fits : (bytes buffer out : List ℕ) (size : ℕ) → (out ≡ overlaid bytes buffer) × (size ≡ length bytes) → size ≤ length out
 unfolding overlaid
-front vs l h = rw (sets-front l vs h) (take-append-seam vs _)
+written-fits bytes buffer out size w = rw (w .0, w .1) (omega (arith, length-append bytes (drop (length bytes) buffer)))
 
-stored : (vs l : List ℕ) → length vs ≤ length l → (take (length vs) (sets l 0 vs) ≡ vs) × (length vs ≤ length (sets l 0 vs))
-stored vs l h = (front vs l h, rw (length-sets l 0 vs) h)
+-- ---- a refusal's line
 
 module _ (number : ℕ) (l : List ℕ) (room : 16 ≤ length l) where
   -- one digit
   pub line-of-10 : number < 10 →
-      let out = sets l 0 (114 ∷ 101 ∷ 102 ∷ 117 ∷ 115 ∷ 101 ∷ 100 ∷ 32 ∷ (48 + number) ∷ 10 ∷ []) in
-      (take 10 out ≡ refusedLine number) × (10 ≤ length out)
+      (sets l 0 (114 ∷ 101 ∷ 102 ∷ 117 ∷ 115 ∷ 101 ∷ 100 ∷ 32 ∷ (48 + number) ∷ 10 ∷ []) ≡ overlaid (refusedLine number) l) ×
+      (10 ≡ length (refusedLine number))
   unfolding refusedLine digits
-  line-of-10 h = rw (lt-ltb number 10 h) (stored _ l (omega arith))
+  line-of-10 h = rw (lt-ltb number 10 h) (sets-front l _ (omega arith), refl)
 
   -- two digits
   pub line-of-11 : 10 ≤ number →
-      let out = sets l 0 (114 ∷ 101 ∷ 102 ∷ 117 ∷ 115 ∷ 101 ∷ 100 ∷ 32 ∷ (48 + number / 10) ∷ (48 + number % 10) ∷ 10 ∷ []) in
-      (take 11 out ≡ refusedLine number) × (11 ≤ length out)
+      (sets l 0 (114 ∷ 101 ∷ 102 ∷ 117 ∷ 115 ∷ 101 ∷ 100 ∷ 32 ∷ (48 + number / 10) ∷ (48 + number % 10) ∷ 10 ∷ []) ≡ overlaid (refusedLine number) l) ×
+      (11 ≡ length (refusedLine number))
   unfolding refusedLine digits
-  line-of-11 h = rw (le-ltb number 10 h) (stored _ l (omega arith))
+  line-of-11 h = rw (le-ltb number 10 h) (sets-front l _ (omega arith), refl)

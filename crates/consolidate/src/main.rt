@@ -1,8 +1,8 @@
 // Reads a job on standard input and writes its key, or the refusal.
-ghost use lib.ListN.{length, take};
+ghost use lib.ListN.{length};
 ghost use mathlib.Core.Path.{_≡_};
 ghost use Prim.Native.Nat.{_≤_, _<_};
-ghost use Rattle.numbers.specs.Arrays.{zeros};
+ghost use Rattle.numbers.specs.Arrays.{overlaid, zeros};
 ghost use Rattle.rules.specs.Program.{refusedLine, inputMost, programOutput};
 use job::fields;
 use libc::STDIN_FILENO;
@@ -14,7 +14,7 @@ const ROOM: usize = 5_176;
 // Stores "refused", a number and a line's end at the start of a buffer, and gives their length.
 fn refused_line(number: u32, out: &mut [u8]) -> usize
     requires { ⌜ (number < 100) × (16 ≤ length (now out)) ⌝ }
-    ensures { λ r. ⌜ (take r (now (out .exit)) ≡ refusedLine number) × (r ≤ length (now (out .exit))) ⌝ }
+    ensures { λ r. ⌜ (now (out .exit) ≡ overlaid (refusedLine number) (now (out .entry))) × (r ≡ length (refusedLine number)) ⌝ }
 {
     out[0] = b'r';
     out[1] = b'e';
@@ -38,7 +38,7 @@ fn refused_line(number: u32, out: &mut [u8]) -> usize
 // Stores what is written for a job at the start of a buffer, and gives its length.
 fn answer(job: &[u8], out: &mut [u8]) -> usize
     requires { ⌜ (length (now job) ≤ inputMost) × (now out ≡ zeros 5_176) ⌝ }
-    ensures { λ r. ⌜ (take r (now (out .exit)) ≡ programOutput (now (job .entry))) × (r ≤ length (now (out .exit))) ⌝ }
+    ensures { λ r. ⌜ (now (out .exit) ≡ overlaid (programOutput (now (job .entry))) (now (out .entry))) × (r ≡ length (programOutput (now (job .entry)))) ⌝ }
 {
     let number = key::consolidation_key(job, out);
     if number != 0 {

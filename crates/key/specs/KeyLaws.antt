@@ -1,13 +1,14 @@
--- The key by what opening answers, and by the room for a result.
+-- The key by what opening answers, and by the room for a result; what it leaves of the buffer.
 use Prim.Native.Nat.{ℕ, _≤_, _<_}
 use native.Mathlib.Omega.{arith}
 use lib.Dec.{ltb, nltb→le}
-use lib.ListN.{length}
+use lib.ListN.{length, take}
+use lib.Seq.{take-append-seam}
 use mathlib.Core.Bool.{true, not, _&&_}
 use mathlib.Core.List.{List}
 use mathlib.Core.Logic.{⊎-elim}
 use mathlib.Core.Option.{Option, none, some}
-use mathlib.Core.Path.{_≡_, refl, ap, _∙_}
+use mathlib.Core.Path.{_≡_, refl, sym, ap, _∙_}
 use Rattle.claims.specs.Causes.{neither, none-holds}
 use Rattle.claims.specs.Described.{described-sound}
 use Rattle.claims.specs.Opened.{opening-either, opened, opened-record}
@@ -15,19 +16,20 @@ use Rattle.claims.specs.Stands.{stands-layer}
 use Rattle.key.specs.Layers.{called-layer, called-elements}
 use Rattle.laws.specs.Every.{Every}
 use Rattle.numbers.specs.Arrays.{overlaid}
+use Rattle.numbers.specs.Filled.{first-length, overlaid-take}
 use Rattle.numbers.specs.Searches.{passed, both}
-use Rattle.result.specs.ResultLaws.{refused-for-room, not-refused, result-written, number-is, buffer-is}
+use Rattle.result.specs.ResultLaws.{result-length, refused-for-room, not-refused, result-written, number-is, buffer-is}
 use Rattle.rules.proofs.Limits.{within-parts}
 use Rattle.rules.specs.Calls.{called}
-use Rattle.rules.specs.Job.{described, jobSite, givenWater, fieldsSound, headerLength, marked, jobCauses}
+use Rattle.rules.specs.Job.{described, describedRecord, jobSite, givenWater, fieldsSound, headerLength, marked, jobCauses}
 use Rattle.rules.specs.Key.{resultOf, runToResult, key}
-use Rattle.rules.specs.Layer.{State}
+use Rattle.rules.specs.Layer.{Site, State}
 use Rattle.rules.specs.Opening.{openedRecord, refusedOpening, descriptionWater, opening}
 use Rattle.rules.specs.Outcome.{refusalOf}
 use Rattle.rules.specs.Quantities.{within, clockLimits, budgetLimits}
-use Rattle.rules.specs.Record.{recordState, sizesSound, isLayer}
+use Rattle.rules.specs.Record.{recordSite, recordState, sizesSound, isLayer}
 use Rattle.rules.specs.Refusals.{firstCause, refusalNumber}
-use Rattle.rules.specs.Result.{Returned, withheld, resultBytes, resultSize, resultRefusal}
+use Rattle.rules.specs.Result.{Returned, withheld, resultBytes, resultSize, resultRefusal, result}
 use Rattle.rules.specs.Start.{openingState}
 use Rattle.rules.specs.declared.answers.Answer.{Answer}
 use Rattle.rules.specs.declared.answers.Answer.the-variants.{Done, Ran, Refused}
@@ -118,6 +120,15 @@ module _ (job : List ℕ) (done : (opening job) .answer ≡ Done) where
   unfolding recordState openingState
   opened-clock = ap (λ (s : State). s .clock) (opened-record job done .state-is)
 
+  -- and which has as many elements as the job describes
+  opened-elements : (opening job) .after .elements ≡ (described job) .elements
+  unfolding recordSite jobSite describedRecord
+  opened-elements =
+      let d = described job in
+      let r = (opening job) .after in
+      sym (first-length r.elements r.solids) ∙ ap (λ (site : Site). length (site .solids)) (opened-record job done .site-is) ∙
+      first-length d.elements d.solids
+
   -- its end and budget keep their limits
   pub end-and-budget : ((described job) .end ≤ clockLimits .most) × ((described job) .budget ≤ budgetLimits .most)
   unfolding fieldsSound
@@ -142,3 +153,64 @@ module _ (job : List ℕ) (done : (opening job) .answer ≡ Done) where
         (buffer : List ℕ) → key job buffer ≡ runToResult (o .after) end budget buffer
     unfolding refusalOf
     key-run e k buffer = rw (opens, e, k) (by-answer job buffer Done done)
+
+-- ---- what is left of the buffer
+
+-- all past the first n places is left; with a number other than 0, the whole buffer
+pub record Leaves (buffer : List ℕ) (n : ℕ) (x : Returned) : Type 0 where
+  pub withheld-whole : (x .number ≡ 0 → ⊥) → x .buffer ≡ buffer
+  pub past : x .buffer ≡ overlaid (take n (x .buffer)) buffer
+
+module _ (buffer : List ℕ) (n : ℕ) where
+  leaves-whole : (number : ℕ) → Leaves buffer n (record { number = number; buffer = buffer })
+  leaves-whole number = record { withheld-whole = λ _. refl; past = sym (overlaid-take n buffer) }
+
+  leaves-unless : (cause : Option Refusal) (x : Returned) → Leaves buffer n x →
+      Leaves buffer n (elim cause [ some cause ↦ withheld cause buffer | none ↦ x ])
+  unfolding withheld
+  leaves-unless none x h = h
+  leaves-unless (some cause) x h = leaves-whole (refusalNumber cause)
+
+  leaves-front : (front : List ℕ) → length front ≡ n → Leaves buffer n (record { number = 0; buffer = overlaid front buffer })
+  unfolding overlaid
+  leaves-front front h = record {
+    withheld-whole = λ other. absurd (other refl);
+    past = rw (← h, take-append-seam front _) refl;
+  }
+
+  leaves-result : (r : Record) (stop : Stop) (steps : ℕ) → resultSize r.elements ≡ n → Leaves buffer n (result r stop steps buffer)
+  unfolding result
+  leaves-result r stop steps h =
+      leaves-unless (resultRefusal r (length buffer)) _ (leaves-front (resultBytes r stop steps) (result-length r stop steps ∙ h))
+
+  leaves-result-of : (answer : Answer) (r : Record) → resultSize r.elements ≡ n → Leaves buffer n (resultOf answer r buffer)
+  unfolding resultOf withheld
+  leaves-result-of Done r h = leaves-whole 0
+  leaves-result-of (Ran stop steps) r h = leaves-result r stop steps h
+  leaves-result-of (Refused cause) r h = leaves-whole (refusalNumber cause)
+
+  leaves-run : (r : Record) (end budget : ℕ) → isLayer r ≡ true → resultSize r.elements ≡ n → Leaves buffer n (runToResult r end budget buffer)
+  unfolding runToResult
+  leaves-run r end budget is h =
+      let run = called r (Run end budget) in
+      leaves-unless (resultRefusal r (length buffer)) _
+      (leaves-result-of (run .answer) (run .after) (ap resultSize (called-elements r is (Run end budget)) ∙ h))
+
+module _ (job buffer : List ℕ) where
+  abbrev size : ℕ
+  size = resultSize ((described job) .elements)
+
+  leaves-refused : (cause : Refusal) → (opening job) .answer ≡ Refused cause → Leaves buffer size (key job buffer)
+  unfolding refusalOf withheld
+  leaves-refused cause e = rw (by-answer job buffer (Refused cause) e) (leaves-whole buffer size (refusalNumber cause))
+
+  leaves-run-result : (opening job) .answer ≡ Done → Leaves buffer size (key job buffer)
+  leaves-run-result done =
+      rw (key-run job done _ refl _ _ refl refl buffer)
+      (leaves-run buffer size _ _ _ (opened-layer job done) (ap resultSize (opened-elements job done)))
+
+  -- the key leaves all past its result
+  pub key-leaves : Leaves buffer size (key job buffer)
+  unfolding refusedOpening
+  key-leaves =
+      ⊎-elim (λ refused. leaves-refused (refused .0) (ap (λ (a : Answered). a .answer) (refused .1))) leaves-run-result (opening-either job)

@@ -71,13 +71,6 @@ pub fn opened(d: Description, water: [u64; 128]) -> Record
     let top = numbered_face(d.top, Pressure(0));
     let bottom = numbered_face(d.bottom, held);
     let load = d.table_load[0] as i64;
-    let solids = d.solids;
-    let compressibility_stress = d.compressibility_stress;
-    let compressibility_void = d.compressibility_void;
-    let conductivity_void = d.conductivity_void;
-    let conductivity = d.conductivity;
-    let table_time = d.table_time;
-    let table_load = d.table_load;
     let starting_water = balance::total_water(d.elements, &water);
     Record {
         top,
@@ -89,14 +82,14 @@ pub fn opened(d: Description, water: [u64; 128]) -> Record
         gravity: d.gravity,
         top_level: Head(top_level),
         bottom_level: Head(bottom_level),
-        solids,
+        solids: d.solids,
         water,
-        compressibility_stress,
-        compressibility_void,
-        conductivity_void,
-        conductivity,
-        table_time,
-        table_load,
+        compressibility_stress: d.compressibility_stress,
+        compressibility_void: d.compressibility_void,
+        conductivity_void: d.conductivity_void,
+        conductivity: d.conductivity,
+        table_time: d.table_time,
+        table_load: d.table_load,
         load: Pressure(load),
         clock: Clock(0),
         top_outflow: 0,

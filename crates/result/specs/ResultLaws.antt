@@ -6,7 +6,7 @@ use lib.IntN.{ℤ, pos, _-ℤ_}
 use lib.ListN.{length, length-append}
 use lib.Seq.{sets}
 use mathlib.Core.Bool.{true, false}
-use mathlib.Core.List.{List, _++_}
+use mathlib.Core.List.{List, [], _++_}
 use mathlib.Core.Option.{Option, none, some}
 use mathlib.Core.Path.{_≡_, refl, sym, ap, _∙_}
 use Rattle.claims.specs.After.{height-parts}
@@ -87,6 +87,14 @@ module _ (r : Record) (stop : Stop) (steps : ℕ) where
       omega (arith, length-append headed (standing burden), long, standing-length burden) in
       sets-then buffer 0 headed (standing burden) h (rw long refl) k ∙ sets-front buffer (headed ++ standing burden) both ∙
       rw (bytes-are array burden e) refl
+
+  -- its length goes by the number of elements
+  pub result-length : length (resultBytes r stop steps) ≡ resultSize n
+  unfolding resultSize
+  result-length =
+      let burden = filled [] n (burdenAt r.gravity n r.solids) in
+      let long = length-head stop n (r .clock .0) steps (r .load .0) (r .«top_outflow») (r .«bottom_outflow») gone in
+      rw (bytes-are [] burden refl) (omega (arith, length-append headed (standing burden), long, standing-length burden))
 
 -- ---- the refusals
 

@@ -10,10 +10,8 @@ use Rattle.rules.specs.Start.{startWater, openingLoad, openingState}
 use Rattle.rules.specs.Refusals.{firstCause}
 use Rattle.rules.specs.Record.{withState}
 use Rattle.rules.specs.Job.{described, describedRecord, jobSite, givenWater, jobCauses}
-use Rattle.rules.specs.Tally.{Course, course, begun}
 use Rattle.rules.specs.declared.answers.Answer.the-variants.{Done, Refused}
 use Rattle.rules.specs.declared.answers.Answered.{Answered}
-use Rattle.rules.specs.declared.answers.Call.{Call}
 use Rattle.rules.specs.declared.answers.Refusal.{Refusal}
 use Rattle.rules.specs.declared.answers.Refusal.the-variants.{StartOffCurve}
 use Rattle.rules.specs.declared.job.Description.{Description}
@@ -73,9 +71,3 @@ opening job =
         | some water ↦ record { answer = Done; after = openedRecord (described job) water }
       ]
     ]
-
--- the tally of a job that is fed a list of calls; none where its start is refused
-unfoldable pub jobCourse : Description → List Call → Option Course
-unfolding descriptionWater course begun jobSite
-jobCourse d calls =
-    elim (descriptionWater d) [ none ↦ none | some water ↦ some (course (jobSite d) calls (begun (jobSite d) water)) ]

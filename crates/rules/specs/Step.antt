@@ -67,7 +67,7 @@ stepped site t s =
       bottomOutflow = s.bottomOutflow -ℤ firstOr (pos 0) flows;
     }
 
--- K, the most by which the effective stress falls for each unit of void ratio: G
+-- the most by which the effective stress falls for each unit of void ratio: G
 unfoldable pub stressSlope : Site → ℕ
 unfolding steepness
 stressSlope site = steepness site.compressibility

@@ -1,7 +1,7 @@
 use native.Mathlib.Omega.{arith}
 use lib.ListN.{length}
 use mathlib.Core.Path.{_≡_, sym, ap, _∙_}
-use Rattle.consolidate.proofs.Program.{number-few, whole, elements-few, size-few, room-is, result-written, refusal-written}
+use Rattle.consolidate.proofs.Program.{number-few, whole, elements-few, room-is, result-written, refusal-written}
 use Rattle.rules.specs.Job.{described}
 use Rattle.rules.specs.Key.{key}
 use Rattle.rules.specs.Result.{resultSize}
@@ -36,8 +36,7 @@ returns c =
     let t = f .before .before in
     let k = t .before .before .before in
     let s = k .before .before .before .before in
-    let e = refusal-written (s .args .job .now) (s .args .out .now) (s .pre .0) (s .pre .1) _ _ (k .consolidation-key .ensures .0) (k .consolidation-key .ensures .1) (t .if1 .taken) in
-    (f .refused-line .ensures .0 ∙ e, f .refused-line .ensures .1)
+    refusal-written (s .args .job .now) (s .args .out .now) (s .pre .0) (s .pre .1) _ _ (k .consolidation-key .ensures .0) (k .consolidation-key .ensures .1) _ _ (t .if1 .taken) (f .refused-line .ensures)
 
 -- ---- number 0
 
@@ -73,10 +72,7 @@ returns-2 c =
     let e = c .before .before in
     let k = e .before .before .before in
     let s = k .before .before .before .before in
-    let room = room-of k in
-    let size = size-is c in
-    let few = size-few _ _ (accepted e) in
-    (result-written (s .args .job .now) (s .args .out .now) (s .pre .0) (s .pre .1) _ _ (k .consolidation-key .ensures .0) (k .consolidation-key .ensures .1) _ (e .if1 .left) size, omega (arith, size, few, room, kept (e .before .before)))
+    result-written (s .args .job .now) (s .args .out .now) (s .pre .0) (s .pre .1) _ _ (k .consolidation-key .ensures .0) (k .consolidation-key .ensures .1) _ (e .if1 .left) (size-is c) (kept (e .before .before))
 
 pub answer-spec : {M : Type 1} → statement M
 answer-spec =

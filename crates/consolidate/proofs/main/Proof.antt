@@ -2,6 +2,7 @@ use lib.Seq.{length-take-le}
 use mathlib.Core.Path.{refl, sym}
 use Rattle.numbers.specs.Arrays.{zeros}
 use borrow.Author.Needs.{needs}
+use Rattle.consolidate.proofs.Program.{written-fits}
 use Rattle.consolidate.proofs.main.Statement.{statement}
 use Rattle.consolidate.proofs.main.Tie as tie
 
@@ -25,10 +26,10 @@ unfolding zeros
 answer-requires c κs = (search needs, refl)
 
 array-share-prefix-out : tie.Need-array-share-prefix-out
-array-share-prefix-out c = search needs
+array-share-prefix-out c = written-fits _ _ _ _ (c .before .answer .ensures)
 
 slice-aggregate-write-all : tie.Need-slice-aggregate-write-all
-slice-aggregate-write-all c = sym (length-take-le _ _ (search needs))
+slice-aggregate-write-all c = sym (length-take-le _ _ (written-fits _ _ _ _ (c .before .before .answer .ensures)))
 
 write-all-requires : tie.Need-write-all-requires
 write-all-requires c κs = search needs

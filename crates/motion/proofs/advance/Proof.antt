@@ -20,7 +20,6 @@ use borrow.Author.Needs.{needs}
 use Rattle.motion.proofs.advance.Statement.{statement}
 use Rattle.motion.proofs.advance.Tie as tie
 
--- src/rt:45:9
 all-flows-requires : tie.Need-all-flows-requires
 all-flows-requires c κs = let s = c .before in (s .pre .0, (s .pre .1 .0, (s .pre .1 .1 .0, (s .pre .1 .1 .1 .0, s .pre .1 .1 .1 .1 .1 .0))))
 
@@ -77,20 +76,17 @@ module _ (c : tie.After-all-flows) where
         stays-as (s .args .n) (s .args .water .now) (s .args .low .now) (s .args .high .now) bottom-is above-is ∙
         stays-is (s .args .n) (s .pre .0 .0) (s .args .top) (s .args .bottom) (s .args .t) (s .args .excess .now) (s .args .resistance .now) (s .args .above .now) (s .args .water .now) (s .args .low .now) (s .args .high .now) curve solids bounded
 
--- src/rt:46:9
 stays-between-requires : tie.Need-stays-between-requires
 stays-between-requires c κs =
     let s = c .before .before .before .before in
     (s .pre .0 .1, (moves-now (c .before .before), λ j h. (s .pre .1 .1 .1 .1 .0 j h .0, s .pre .1 .1 .1 .1 .0 j h .1)))
 
--- src/rt:47:9
 returns : tie.Need-returns
 returns c =
     let f = c .before .before .before .before in
     let gone = sym (c .before .stays-between .ensures) ∙ not-true _ (c .if1 .taken) in
     ((λ curve solids b. gives-leaves _ (sym (stays f curve solids b) ∙ gone)), ((λ curve solids b. keeps _ _ _ (sym (stays f curve solids b) ∙ gone)), f .all-flows .ensures .1))
 
--- src/rt:49:5
 move-water-requires : tie.Need-move-water-requires
 move-water-requires c κs =
     let s = c .before .before .before .before .before .before .before .before in
@@ -98,19 +94,15 @@ move-water-requires c κs =
     let on = sym (c .before .before .before .stays-between .ensures) ∙ not-false _ (c .before .before .if1 .left) in
     (s .pre .0 .1, (moves-now f, (stays-positive (s .args .n) _ (now-above f) (s .args .water .now) (s .args .low .now) (s .args .high .now) on, s .pre .1 .1 .1 .1 .1 .1)))
 
--- src/rt:50:16
 sub-last : tie.Need-sub-last
 sub-last c = search needs
 
--- src/rt:51:26
 mul-t21 : tie.Need-mul-t21
 mul-t21 c = search needs
 
--- src/rt:51:26
 element-copy-out-t24 : tie.Need-element-copy-out-t24
 element-copy-out-t24 c = search needs
 
--- src/rt:23:1
 returns-2 : tie.Need-returns-2
 returns-2 c =
     let f = c .before .before .before .before .before .before .before .before in

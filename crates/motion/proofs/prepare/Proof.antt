@@ -10,42 +10,33 @@ use borrow.Author.Needs.{needs}
 use Rattle.motion.proofs.prepare.Statement.{statement}
 use Rattle.motion.proofs.prepare.Tie as tie
 
--- src/rt:90:5
 burdens-requires : tie.Need-burdens-requires
 burdens-requires c κs = let s = c .before in (s .pre .0, (s .pre .1 .0, ((λ j h. s .pre .1 .1 .0 j h .1), s .pre .1 .1 .1 .1 .0)))
 
--- src/rt:91:5
 sensitivities-requires : tie.Need-sensitivities-requires
 sensitivities-requires c κs = search needs
 
--- src/rt:92:16
 sub-last : tie.Need-sub-last
 sub-last c = search needs
 
--- src/rt:93:36
 mul-water-bounds : tie.Need-mul-water-bounds
 mul-water-bounds c = search needs
 
--- src/rt:93:36
 element-copy-out-water-bounds : tie.Need-element-copy-out-water-bounds
 element-copy-out-water-bounds c = search needs
 
--- src/rt:93:48
 element-copy-out-water-bounds-2 : tie.Need-element-copy-out-water-bounds-2
 element-copy-out-water-bounds-2 c = search needs
 
--- src/rt:93:5
 water-bounds-requires : tie.Need-water-bounds-requires
 water-bounds-requires c κs =
     let s = c .before .before .before .before .before .before .before .before in
     let k = compressible _ _ _ (s .pre .1 .1 .1 .0 .2) in
     (s .pre .0, (s .pre .1 .1 .0, ((k .void-high _ (omega (arith, s .pre .1 .1 .1 .0 .0)), k .void-high _ (omega (arith, s .pre .1 .1 .1 .0 .0))), (s .pre .1 .1 .1 .1 .2, s .pre .1 .1 .1 .1 .3))))
 
--- src/rt:94:5
 steepness-requires : tie.Need-steepness-requires
 steepness-requires c κs = search needs
 
--- src/rt:68:1
 returns : tie.Need-returns
 returns c =
     let s = c .before .before .before .before .before .before .before .before .before .before in

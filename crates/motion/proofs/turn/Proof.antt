@@ -145,11 +145,9 @@ advance-requires c κs =
     let z = s′ l in
     (z .pre .0, ((z .pre .1 .0 .0, z .pre .1 .0 .1), (short l, (readable-now (f l), (waters l, (z .pre .1 .1 .1 .1 .1 .2, z .pre .1 .1 .1 .1 .1 .3))))))
 
--- src/rt:125:42
 enum-told : tie.Need-enum-told
 enum-told c = search needs
 
--- src/rt:126:22
 enum-known-first : tie.Need-enum-known-first
 enum-known-first c = search needs
 
@@ -218,14 +216,12 @@ module _ (c : tie.After-advance) where
         t positive (sym (longest-now l)) there first-is last-is in
         (law .0, sym (moves-on flows (z .args .n) (z .args .water .now) there) ∙ law .1, law .2)
 
--- src/rt:67:1
 returns-2 : tie.Need-returns-2
 returns-2 c =
     let a = c .before .before in
     let e : Leaves ≡ a .advance .result = sym (c .enum-told .given .1) in
     ((λ site st shows. off a site st shows e .0), ((λ site st shows. water-left a ∙ off a site st shows e .1), ((λ site st shows. above-left a ∙ off a site st shows e .2), (excess-is (f (l a)), resistance-is (f (l a))))))
 
--- src/rt:67:1
 returns-3 : tie.Need-returns-3
 returns-3 c =
     let a = c .before .before .before in

@@ -5,11 +5,9 @@ use borrow.Author.Needs.{needs}
 use Rattle.run.proofs.ended.Statement.{statement}
 use Rattle.run.proofs.ended.Tie as tie
 
--- src/rt:38:16
 with-state-requires : tie.Need-with-state-requires
 with-state-requires c κs = search needs
 
--- src/rt:24:1
 returns : tie.Need-returns
 returns c s water load clock top bottom =
     let a = c .before in

@@ -458,11 +458,9 @@ loop-again c =
       ap (λ (w : List ℕ). length w) (water-after c) ∙ still-long (r b .elements) (after c .water) (water b) (r b .water) (size-after c) (old .8) (counted (r b) (is b) .1) (old .3),
     )
 
--- src/rt:140:9
 ended-requires-2 : tie.Need-ended-requires-2 Inv-loop μ-loop
 ended-requires-2 c κs = search needs
 
--- src/rt:140:9
 returns-2 : tie.Need-returns-2 Inv-loop μ-loop
 returns-2 c =
     let z = c .before .before .before in
@@ -473,11 +471,9 @@ returns-2 c =
     sym (answers q AtEnd (z .loop .steps) s
     (ends-at-end (site q) (end q) (budget q) (recordState (layer q)) (z .loop .steps) s (inv .4) (eq-eqb (z .loop .clock) (end q) (c .before .if2 .taken))))
 
--- src/rt:151:5
 ended-requires-3 : tie.Need-ended-requires-3 Inv-loop μ-loop
 ended-requires-3 c κs = search needs
 
--- src/rt:50:1
 -- the loop was left at the end, or with no budget
 used : (c : tie.Else2 Inv-loop μ-loop) → budget (c .before .before .before) ≤ c .before .before .loop .steps
 used c =

@@ -13,15 +13,13 @@ use borrow.Author.Needs.{needs}
 use Rattle.run.proofs.take_run.Statement.{statement}
 use Rattle.run.proofs.take_run.Tie as tie
 
--- src/rt:169:9
+-- whether the record is a layer
 is-layer-requires : tie.Need-is-layer-requires
 is-layer-requires c κs = search needs
 
--- src/rt:170:9
 refused-requires : tie.Need-refused-requires
 refused-requires c κs = search needs
 
--- src/rt:170:9
 -- the record is a layer, and each limit is kept
 standing : (c : tie.Else1) → isLayer (c .before .before .args .layer) ≡ true
 standing c = sym (c .before .is-layer .ensures) ∙ not-false _ (c .if1 .left)
@@ -35,11 +33,9 @@ returns c =
     answered (c .refused .result) (c .refused .ensures .0) (c .refused .ensures .1) ∙
     sym (not-layer (s .args .layer) (Run (s .args .end) (s .args .budget)) (sym (c .before .before .is-layer .ensures) ∙ not-true _ (c .before .if1 .taken)))
 
--- src/rt:174:9
 refused-requires-2 : tie.Need-refused-requires-2
 refused-requires-2 c κs = search needs
 
--- src/rt:174:9
 returns-2 : tie.Need-returns-2
 unfolding recordState
 returns-2 c =
@@ -47,15 +43,12 @@ returns-2 c =
     answered (c .refused2 .result) (c .refused2 .ensures .0) (c .refused2 .ensures .1) ∙
     sym (refused-on-layer (s .args .layer) (Run (s .args .end) (s .args .budget)) RunOutside (standing (c .before .before .before .before)) (end-before-clock (recordSite (s .args .layer)) (recordState (s .args .layer)) (s .args .end) (s .args .budget) (lt-ltb (s .args .end) (s .args .layer .clock .0) (c .before .if2 .taken))))
 
--- src/rt:176:9
 holds-requires : tie.Need-holds-requires
 holds-requires c κs = search needs
 
--- src/rt:177:9
 refused-requires-3 : tie.Need-refused-requires-3
 refused-requires-3 c κs = search needs
 
--- src/rt:177:9
 returns-3 : tie.Need-returns-3
 unfolding recordState
 returns-3 c =
@@ -64,15 +57,12 @@ returns-3 c =
     sym (refused-on-layer (s .args .layer) (Run (s .args .end) (s .args .budget)) RunOutside (standing (c .before .before .before .before .before .before))
     (end-past-limit (recordSite (s .args .layer)) (recordState (s .args .layer)) (s .args .end) (s .args .budget) (le-ltb (s .args .end) (s .args .layer .clock .0) (c .before .before .before .if2 .left)) (sym (c .before .before .holds .ensures) ∙ not-true _ (c .before .if3 .taken))))
 
--- src/rt:179:9
 holds-requires-2 : tie.Need-holds-requires-2
 holds-requires-2 c κs = search needs
 
--- src/rt:180:9
 refused-requires-4 : tie.Need-refused-requires-4
 refused-requires-4 c κs = search needs
 
--- src/rt:180:9
 returns-4 : tie.Need-returns-4
 unfolding recordState
 returns-4 c =
@@ -81,7 +71,6 @@ returns-4 c =
     sym (refused-on-layer (s .args .layer) (Run (s .args .end) (s .args .budget)) RunOutside (standing (c .before .before .before .before .before .before .before .before))
     (budget-past-limit (recordSite (s .args .layer)) (recordState (s .args .layer)) (s .args .end) (s .args .budget) (le-ltb (s .args .end) (s .args .layer .clock .0) (c .before .before .before .before .before .if2 .left)) (end-kept (c .before .before .before)) (sym (c .before .before .holds2 .ensures) ∙ not-true _ (c .before .if4 .taken))))
 
--- src/rt:182:5
 run-layer-requires : tie.Need-run-layer-requires
 run-layer-requires c κs =
     let s = c .before .before .before .before .before .before .before .before .before in (
@@ -93,7 +82,6 @@ run-layer-requires c κs =
       ),
     )
 
--- src/rt:166:1
 returns-5 : tie.Need-returns-5
 returns-5 c = search needs
 

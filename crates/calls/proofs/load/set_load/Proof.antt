@@ -17,15 +17,13 @@ use borrow.Author.Needs.{needs}
 use Rattle.calls.proofs.load.set_load.Statement.{statement}
 use Rattle.calls.proofs.load.set_load.Tie as tie
 
--- src/load.rt:16:9
+-- whether the record is a layer
 is-layer-requires : tie.Need-is-layer-requires
 is-layer-requires c κs = search needs
 
--- src/load.rt:17:9
 refused-requires : tie.Need-refused-requires
 refused-requires c κs = search needs
 
--- src/load.rt:17:9
 -- the record is a layer
 standing : (c : tie.Else1) → isLayer (c .before .before .args .layer) ≡ true
 standing c = sym (c .before .is-layer .ensures) ∙ not-false _ (c .if1 .left)
@@ -36,27 +34,21 @@ returns c =
     answered (c .refused .result) (c .refused .ensures .0) (c .refused .ensures .1) ∙
     sym (not-layer (s .args .layer) (Load (s .args .load)) (sym (c .before .before .is-layer .ensures) ∙ not-true _ (c .before .if1 .taken)))
 
--- src/load.rt:21:11
 new-requires : tie.Need-new-requires
 new-requires c κs = search needs
 
--- src/load.rt:22:58
 enum-told : tie.Need-enum-told
 enum-told c = search needs
 
--- src/load.rt:22:36
 refused-requires-2 : tie.Need-refused-requires-2
 refused-requires-2 c κs = search needs
 
--- src/load.rt:23:32
 enum-known-pressure : tie.Need-enum-known-pressure
 enum-known-pressure c = search needs
 
--- src/load.rt:25:20
 with-state-requires : tie.Need-with-state-requires
 with-state-requires c κs = search needs
 
--- src/load.rt:13:1
 returns-2 : tie.Need-returns-2
 returns-2 c =
     let s = c .before .before .before .before .before .before .before .before in
@@ -64,7 +56,6 @@ returns-2 c =
     answered (c .refused2 .result) (c .refused2 .ensures .0) (c .refused2 .ensures .1) ∙
     sym (refused-on-layer (s .args .layer) (Load (s .args .load)) LoadOutside (standing (c .before .before .before .before .before .before)) (load-outside _ _ (s .args .load) outside))
 
--- src/load.rt:13:1
 returns-3 : tie.Need-returns-3
 unfolding withEvents afterEvents afterEvent withLoad recordState
 returns-3 c =

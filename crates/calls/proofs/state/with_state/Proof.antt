@@ -4,7 +4,7 @@ use Rattle.rules.specs.Record.{withState}
 use Rattle.calls.proofs.state.with_state.Statement.{statement}
 use Rattle.calls.proofs.state.with_state.Tie as tie
 
--- src/state.rt:16:1
+-- every field is told
 returns : tie.Need-returns
 unfolding withState
 returns c s water load clock top bottom =

@@ -15,15 +15,12 @@ use borrow.Author.Needs.{needs}
 use Rattle.calls.proofs.step.take_step.Statement.{statement}
 use Rattle.calls.proofs.step.take_step.Tie as tie
 
--- src/step.rt:107:9
 is-layer-requires : tie.Need-is-layer-requires
 is-layer-requires c κs = search needs
 
--- src/step.rt:108:9
 refused-requires : tie.Need-refused-requires
 refused-requires c κs = search needs
 
--- src/step.rt:108:9
 -- the record is a layer
 standing : (c : tie.Else1) → isLayer (c .before .before .args .layer) ≡ true
 standing c = sym (c .before .is-layer .ensures) ∙ not-false _ (c .if1 .left)
@@ -38,15 +35,12 @@ returns c =
     answered (c .refused .result) (c .refused .ensures .0) (c .refused .ensures .1) ∙
     sym (not-layer (s .args .layer) (Step (s .args .t)) (sym (c .before .before .is-layer .ensures) ∙ not-true _ (c .before .if1 .taken)))
 
--- src/step.rt:110:9
 holds-requires : tie.Need-holds-requires
 holds-requires c κs = search needs
 
--- src/step.rt:111:9
 refused-requires-2 : tie.Need-refused-requires-2
 refused-requires-2 c κs = search needs
 
--- src/step.rt:111:9
 returns-2 : tie.Need-returns-2
 returns-2 c =
     let s = c .before .before .before .before .before in
@@ -54,22 +48,18 @@ returns-2 c =
     sym (refused-on-layer (s .args .layer) (Step (s .args .t)) StepOutside (standing (c .before .before .before))
     (step-length-outside _ _ (s .args .t) (sym (c .before .before .holds .ensures) ∙ not-true _ (c .before .if2 .taken))))
 
--- src/step.rt:114:22
 add-holds : tie.Need-add-holds
 add-holds c =
     let s = c .before .before .before .before .before .before in
     let few = within-parts stepLimits (s .args .t) (passed (in-limits (c .before .before))) .1 in
     omega (arith, few, state-is (s .args .layer) (standing (c .before .before .before .before)) .clock-most)
 
--- src/step.rt:114:9
 holds-requires-2 : tie.Need-holds-requires-2
 holds-requires-2 c κs = search needs
 
--- src/step.rt:115:9
 refused-requires-3 : tie.Need-refused-requires-3
 refused-requires-3 c κs = search needs
 
--- src/step.rt:115:9
 returns-3 : tie.Need-returns-3
 unfolding recordState
 returns-3 c =
@@ -78,11 +68,9 @@ returns-3 c =
     sym (refused-on-layer (s .args .layer) (Step (s .args .t)) StepOutside (standing (c .before .before .before .before .before .before .before))
     (clock-outside _ _ (s .args .t) (in-limits (c .before .before .before .before .before)) (sym (c .before .before .holds2 .ensures) ∙ not-true _ (c .before .if3 .taken))))
 
--- src/step.rt:117:5
 step-layer-requires : tie.Need-step-layer-requires
 step-layer-requires c κs = (standing (c .before .before .before .before .before .before), (in-limits (c .before .before .before .before), sym (c .before .holds2 .ensures) ∙ not-false _ (c .if3 .left)))
 
--- src/step.rt:104:1
 returns-4 : tie.Need-returns-4
 returns-4 c = search needs
 

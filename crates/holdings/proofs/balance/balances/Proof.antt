@@ -37,23 +37,18 @@ module _ (c : tie.Start) where
   out-fits : SFits w64 (pos (c .args .starting) -ℤ pos (c .args .left) -ℤ c .args .top-outflow)
   out-fits = within-fits tt (within-sub gone (c .pre .1))
 
--- src/balance.rt:43:5
 cast-result : tie.Need-cast-result
 cast-result c = search needs
 
--- src/balance.rt:43:23
 cast-result-2 : tie.Need-cast-result-2
 cast-result-2 c = search needs
 
--- src/balance.rt:43:5
 sub-result : tie.Need-sub-result
 sub-result c = simp (starting-is c, left-is c) (gone-fits c)
 
--- src/balance.rt:43:5
 sub-result-2 : tie.Need-sub-result-2
 sub-result-2 c = simp (starting-is c, left-is c, readBack (gone-fits c), readBack (c .fits .top-outflow)) (out-fits c)
 
--- src/balance.rt:38:1
 returns : tie.Need-returns
 returns c =
     simp (starting-is c, left-is c, readBack (gone-fits c), readBack (c .fits .top-outflow))

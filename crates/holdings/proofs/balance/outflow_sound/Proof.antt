@@ -40,19 +40,15 @@ module _ (c : tie.Start) where
   least-fits : SFits w64 (pos 0 -ℤ pos most)
   least-fits = within-fits {n = 6_900_000_000_000_000_000} tt (within-le (within-sub (within-pos 0) (within-pos most)) (omega arith))
 
--- src/balance.rt:33:17
 mul-most : tie.Need-mul-most
 mul-most c = search needs
 
--- src/balance.rt:33:16
 cast-most : tie.Need-cast-most
 cast-most c = search needs
 
--- src/balance.rt:34:5
 sub-if1 : tie.Need-sub-if1
 sub-if1 c = simp (most-is c) (least-fits c)
 
--- src/balance.rt:29:1
 returns : tie.Need-returns
 unfolding outflowSound
 returns c =
@@ -61,7 +57,6 @@ returns c =
     let reaches = simp (most-is s, readBack (least-fits s), readBack (s .fits .outflow)) at (c .if1 .taken) in
     simp (most-is s, readBack (s .fits .outflow)) (ap (λ (x : Bool). x && leZ z (pos (most s))) (sym reaches) ∙ between z (most s))
 
--- src/balance.rt:29:1
 returns-2 : tie.Need-returns-2
 unfolding outflowSound
 returns-2 c =

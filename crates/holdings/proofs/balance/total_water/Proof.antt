@@ -16,32 +16,25 @@ Inv-loop n water total₀ j₀ total j =
 abbrev μ-loop : tie.MeasureT-loop
 μ-loop n water total₀ j₀ total j = n - j
 
--- src/balance.rt:21:5
 loop-holds : tie.Need-loop-holds Inv-loop μ-loop
 unfolding sum
 loop-holds c = (omega arith, omega arith, refl)
 
--- src/balance.rt:22:18
 mul-total : tie.Need-mul-total Inv-loop μ-loop
 mul-total c = omega arith
 
--- src/balance.rt:22:18
 element-copy-out-total : tie.Need-element-copy-out-total Inv-loop μ-loop
 element-copy-out-total c = omega arith
 
--- src/balance.rt:22:9
 add-total : tie.Need-add-total Inv-loop μ-loop
 add-total c = let l = c .before .before in omega (arith, l .before .pre .1 (l .loop .j) (omega arith))
 
--- src/balance.rt:23:9
 add-j : tie.Need-add-j Inv-loop μ-loop
 add-j c = omega arith
 
--- src/balance.rt:21:5
 loop-less : tie.Need-loop-less Inv-loop μ-loop
 loop-less c = omega arith
 
--- src/balance.rt:21:5
 loop-again : tie.Need-loop-again Inv-loop μ-loop
 loop-again c =
     let l = c .before .before in
@@ -50,7 +43,6 @@ loop-again c =
     let w = s .args .water .now in
     (omega arith, omega (arith, s .pre .1 (l .loop .j) (omega arith)), rw (sum-suc (l .loop .j) (firstPlaces n w), first-at n w (l .loop .j) (omega arith), ← l .loop .inv .2) refl)
 
--- src/balance.rt:14:1
 returns : tie.Need-returns Inv-loop μ-loop
 returns c =
     let s = c .before .before in

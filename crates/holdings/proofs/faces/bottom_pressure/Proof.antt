@@ -17,15 +17,12 @@ module _ (c : tie.Start) where
   difference-fits : SFits w64 (c .args .bottom-level -ℤ c .args .top-level)
   difference-fits = within-fits tt difference
 
--- src/faces.rt:46:10
 sub-t3 : tie.Need-sub-t3
 sub-t3 c = simp (readBack (c .fits .bottom-level), readBack (c .fits .top-level)) (difference-fits c)
 
--- src/faces.rt:46:5
 as-pressure-requires : tie.Need-as-pressure-requires
 as-pressure-requires c κs = simp (readBack (c .fits .bottom-level), readBack (c .fits .top-level), readBack (difference-fits c)) (difference c)
 
--- src/faces.rt:42:1
 returns : tie.Need-returns
 unfolding bottomPressure
 returns c = simp (readBack (c .before .fits .bottom-level), readBack (c .before .fits .top-level), readBack (difference-fits (c .before))) at (c .as-pressure .ensures)

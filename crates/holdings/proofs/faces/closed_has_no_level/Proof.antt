@@ -6,22 +6,18 @@ use borrow.Author.Needs.{needs}
 use Rattle.holdings.proofs.faces.closed_has_no_level.Statement.{statement}
 use Rattle.holdings.proofs.faces.closed_has_no_level.Tie as tie
 
--- src/faces.rt:36:25
 enum-told : tie.Need-enum-told
 enum-told c = search needs
 
--- src/faces.rt:37:29
 enum-told-2 : tie.Need-enum-told-2
 enum-told-2 c = search needs
 
--- src/faces.rt:32:1
 returns : tie.Need-returns
 unfolding closedAtZero
 returns c =
     let s = c .before .before in
     rw (c .enum-told .given .1) (bits-equal (s .args .level) (pos 0) (s .fits .level) (within-fits tt (within-pos 0)))
 
--- src/faces.rt:32:1
 returns-2 : tie.Need-returns-2
 unfolding closedAtZero
 returns-2 c = rw (c .enum-told2 .given .1)

@@ -4,20 +4,16 @@ use borrow.Author.Needs.{needs}
 use Rattle.holdings.proofs.faces.face_holds.Statement.{statement}
 use Rattle.holdings.proofs.faces.face_holds.Tie as tie
 
--- src/faces.rt:26:25
 enum-told : tie.Need-enum-told
 enum-told c = search needs
 
--- src/faces.rt:27:23
 enum-known-face : tie.Need-enum-known-face
 enum-known-face c = search needs
 
--- src/faces.rt:22:1
 returns : tie.Need-returns
 unfolding faceHolds
 returns c = rw (c .enum-told .given .1)
 
--- src/faces.rt:22:1
 returns-2 : tie.Need-returns-2
 unfolding faceHolds
 returns-2 c =

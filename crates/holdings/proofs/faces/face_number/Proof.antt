@@ -3,20 +3,16 @@ use borrow.Author.Needs.{needs}
 use Rattle.holdings.proofs.faces.face_number.Statement.{statement}
 use Rattle.holdings.proofs.faces.face_number.Tie as tie
 
--- src/faces.rt:16:25
 enum-told : tie.Need-enum-told
 enum-told c = search needs
 
--- src/faces.rt:17:29
 enum-told-2 : tie.Need-enum-told-2
 enum-told-2 c = search needs
 
--- src/faces.rt:12:1
 returns : tie.Need-returns
 unfolding faceNumber
 returns c = rw (c .enum-told .given .1)
 
--- src/faces.rt:12:1
 returns-2 : tie.Need-returns-2
 unfolding faceNumber
 returns-2 c = rw (c .enum-told2 .given .1)

@@ -25,45 +25,36 @@ Inv-loop n least most numbers j₀ j =
 abbrev μ-loop : tie.MeasureT-loop
 μ-loop n least most numbers j₀ j = n - j
 
--- src/sizes.rt:22:5
 loop-holds : tie.Need-loop-holds Inv-loop μ-loop
 loop-holds c = (omega arith, all-rest _ _)
 
--- src/sizes.rt:23:45
 mul-within : tie.Need-mul-within Inv-loop μ-loop
 mul-within c = omega arith
 
--- src/sizes.rt:23:45
 element-copy-out-within : tie.Need-element-copy-out-within Inv-loop μ-loop
 element-copy-out-within c = omega arith
 
--- src/sizes.rt:23:13
 within-requires : tie.Need-within-requires Inv-loop μ-loop
 within-requires c κs = search needs
 
--- src/sizes.rt:24:13
 returns : tie.Need-returns Inv-loop μ-loop
 returns c =
     let l = c .before .before .before .before in
     let s = l .before in
     index-fails (s .args .n) (λ i. within (from s .args .least to s .args .most) (getD (s .args .numbers .now) i 0)) (l .loop .j) (l .loop .inv .1) (omega arith) (sym (c .before .within .ensures) ∙ not-true _ (c .if1 .taken)) ∙ sym (listed _ _ _ _)
 
--- src/sizes.rt:26:9
 add-j : tie.Need-add-j Inv-loop μ-loop
 add-j c = omega arith
 
--- src/sizes.rt:22:5
 loop-less : tie.Need-loop-less Inv-loop μ-loop
 loop-less c = omega arith
 
--- src/sizes.rt:22:5
 loop-again : tie.Need-loop-again Inv-loop μ-loop
 loop-again c =
     let l = c .before .before .before .before in
     let s = l .before in
     (omega arith, index-goes (s .args .n) (λ i. within (from s .args .least to s .args .most) (getD (s .args .numbers .now) i 0)) (l .loop .j) (l .loop .inv .1) (omega arith) (sym (c .before .within .ensures) ∙ not-false _ (c .if1 .left)))
 
--- src/sizes.rt:17:1
 returns-2 : tie.Need-returns-2 Inv-loop μ-loop
 returns-2 c =
     let l = c .before in

@@ -4,27 +4,21 @@ use borrow.Author.Needs.{needs}
 use Rattle.holdings.proofs.sizes.sizes_sound.Statement.{statement}
 use Rattle.holdings.proofs.sizes.sizes_sound.Tie as tie
 
--- src/sizes.rt:44:5
 is-level-requires : tie.Need-is-level-requires
 is-level-requires c κs = search needs
 
--- src/sizes.rt:45:11
 is-level-requires-2 : tie.Need-is-level-requires-2
 is-level-requires-2 c κs = search needs
 
--- src/sizes.rt:46:11
 closed-has-no-level-requires : tie.Need-closed-has-no-level-requires
 closed-has-no-level-requires c κs = search needs
 
--- src/sizes.rt:47:11
 all-within-requires : tie.Need-all-within-requires
 all-within-requires c κs = search needs
 
--- src/sizes.rt:48:11
 all-within-requires-2 : tie.Need-all-within-requires-2
 all-within-requires-2 c κs = search needs
 
--- src/sizes.rt:32:1
 returns : tie.Need-returns
 unfolding sizesSound
 returns c site top bottom face solids =

@@ -3,39 +3,30 @@ use borrow.Author.Needs.{needs}
 use Rattle.job.proofs.header.header_sound.Statement.{statement}
 use Rattle.job.proofs.header.header_sound.Tie as tie
 
--- src/header.rt:37:5
 holds-requires : tie.Need-holds-requires
 holds-requires c κs = search needs
 
--- src/header.rt:38:11
 holds-requires-2 : tie.Need-holds-requires-2
 holds-requires-2 c κs = search needs
 
--- src/header.rt:39:11
 holds-requires-3 : tie.Need-holds-requires-3
 holds-requires-3 c κs = search needs
 
--- src/header.rt:40:11
 holds-requires-4 : tie.Need-holds-requires-4
 holds-requires-4 c κs = search needs
 
--- src/header.rt:41:11
 holds-requires-5 : tie.Need-holds-requires-5
 holds-requires-5 c κs = search needs
 
--- src/header.rt:42:11
 holds-requires-6 : tie.Need-holds-requires-6
 holds-requires-6 c κs = search needs
 
--- src/header.rt:43:11
 holds-requires-7 : tie.Need-holds-requires-7
 holds-requires-7 c κs = search needs
 
--- src/header.rt:44:11
 holds-requires-8 : tie.Need-holds-requires-8
 holds-requires-8 c κs = search needs
 
--- src/header.rt:25:1
 returns : tie.Need-returns
 unfolding headerSound
 returns c =

@@ -60,7 +60,7 @@ cast-load c = let h = load-small (c .before .before .before .before) in omega si
 
 total-water-requires : tie.Need-total-water-requires
 total-water-requires c κs =
-    let s = c .before .before .before .before .before .before .before .before .before .before .before .before in (
+    let s = c .before .before .before .before .before in (
       kept-header (d s) (s .pre .0 .0) .elements-kept .most,
       (λ j h. rw (← first-at (d s .elements) (s .args .t2) j h) (heights-most (d s) (s .pre .0 .1) _ (s .pre .1 .0) j h)),
     )
@@ -68,7 +68,8 @@ total-water-requires c κs =
 returns : tie.Need-returns
 unfolding topPressure
 returns c =
-    let t = c .before .before .before .before .before .before .before .before .before .before in
+    let w = c .before .before .before .before .before .before .before in
+    let t = w .before .before .before in
     let h = t .before .before in
     let s = h .before in
     let top-is = readUnsigned _ (top-small s) in
@@ -82,7 +83,7 @@ returns c =
     bottom-is
     (s .pre .1 .1)
     (readUnsigned _ (load-small s) ∙ ap pos (sym (opening-load (d s) (s .pre .0 .0) (s .pre .0 .1))))
-    (c .total-water .ensures .0)
+    (w .total-water .ensures .0)
 
 pub opened-spec : {M : Type 1} → statement M
 opened-spec =

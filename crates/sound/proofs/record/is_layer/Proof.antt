@@ -5,20 +5,16 @@ use borrow.Author.Needs.{needs}
 use Rattle.sound.proofs.record.is_layer.Statement.{statement}
 use Rattle.sound.proofs.record.is_layer.Tie as tie
 
--- src/record.rt:112:9
 site-sound-requires : tie.Need-site-sound-requires
 site-sound-requires c κs = search needs
 
--- src/record.rt:113:9
 returns : tie.Need-returns
 unfolding isLayer
 returns c = rw (sym (c .before .site-sound .ensures) ∙ not-true _ (c .if1 .taken)) refl
 
--- src/record.rt:115:5
 state-sound-requires : tie.Need-state-sound-requires
 state-sound-requires c κs = sym (c .before .site-sound .ensures) ∙ not-false _ (c .if1 .left)
 
--- src/record.rt:109:1
 returns-2 : tie.Need-returns-2
 unfolding isLayer
 returns-2 c =

@@ -15,15 +15,12 @@ use borrow.Author.Needs.{needs}
 use Rattle.sound.proofs.record.site_sound.Statement.{statement}
 use Rattle.sound.proofs.record.site_sound.Tie as tie
 
--- src/record.rt:27:9
 face-number-requires : tie.Need-face-number-requires
 face-number-requires c κs = search needs
 
--- src/record.rt:28:9
 face-number-requires-2 : tie.Need-face-number-requires-2
 face-number-requires-2 c κs = search needs
 
--- src/record.rt:26:9
 header-sound-requires : tie.Need-header-sound-requires
 header-sound-requires c κs = search needs
 
