@@ -15,13 +15,12 @@ use Rattle.numbers.specs.Integers.{eqℤ}
 use Rattle.numbers.specs.Lists.{all}
 use Rattle.numbers.specs.Searches.{passed, is-true, both}
 use Rattle.rules.specs.Curve.{compressibilitySound, conductivitySound}
-use Rattle.rules.specs.Job.{field, described, numberedFace, describedRecord, jobSite, givenWater, fieldsSound, headerKept, jobCauses}
+use Rattle.rules.specs.Job.{Description, field, described, numberedFace, describedRecord, jobSite, givenWater, fieldsSound, headerKept, jobCauses}
 use Rattle.rules.specs.Layer.{topPressure}
 use Rattle.rules.specs.Load.{tableSound}
 use Rattle.rules.specs.Quantities.{within, clockLimits, budgetLimits, flagLimits, elementLimits, curveLimits, tableLimits, gravityLimits, startingWaterLimits}
 use Rattle.rules.specs.Record.{headerSound, faceNumber, sizesSound, faceHolds, recordSite}
 use Rattle.rules.specs.Refusals.{firstCause}
-use Rattle.rules.specs.declared.job.Description.{Description}
 use Rattle.rules.specs.declared.quantities.Pressure.{Pressure}
 use Rattle.rules.proofs.Limits.{inside}
 
@@ -64,21 +63,21 @@ face-holds (suc n) held = rw (eqb·suc-zero n, numberedFace) (is-true (eqℤ (he
 
 -- the header of the record, whose faces are numbered anew and which has no start
 header-again : (d : Description) (h k : Pressure) → headerKept d ≡ true →
-    headerSound (faceNumber (numberedFace d.top h)) (faceNumber (numberedFace d.bottom k)) d.elements (d .«compressibility_points»)
-    (d .«conductivity_points») (d .«table_points») 0 d.gravity ≡ true
+    headerSound (faceNumber (numberedFace d.header.top h)) (faceNumber (numberedFace d.header.bottom k)) d.header.elements (d .header .«compressibility_points»)
+    (d .header .«conductivity_points») (d .header .«table_points») 0 d.header.gravity ≡ true
 unfolding headerSound headerKept
 header-again d h k e =
-    let s = sound-header d.top d.bottom d.elements (d .«compressibility_points») (d .«conductivity_points») (d .«table_points») d.start d.gravity e in
+    let s = sound-header d.header.top d.header.bottom d.header.elements (d .header .«compressibility_points») (d .header .«conductivity_points») (d .header .«table_points») d.header.start d.header.gravity e in
     rw (
-      face-number d.top h (s .top-kept .most),
-      face-number d.bottom k (s .bottom-kept .most),
-      inside flagLimits d.top (s .top-kept .least) (s .top-kept .most),
-      inside flagLimits d.bottom (s .bottom-kept .least) (s .bottom-kept .most),
-      inside elementLimits d.elements (s .elements-kept .least) (s .elements-kept .most),
-      inside curveLimits (d .«compressibility_points») (s .compressibility-kept .least) (s .compressibility-kept .most),
-      inside curveLimits (d .«conductivity_points») (s .conductivity-kept .least) (s .conductivity-kept .most),
-      inside tableLimits (d .«table_points») (s .table-kept .least) (s .table-kept .most),
-      inside gravityLimits d.gravity (s .gravity-kept .least) (s .gravity-kept .most),
+      face-number d.header.top h (s .top-kept .most),
+      face-number d.header.bottom k (s .bottom-kept .most),
+      inside flagLimits d.header.top (s .top-kept .least) (s .top-kept .most),
+      inside flagLimits d.header.bottom (s .bottom-kept .least) (s .bottom-kept .most),
+      inside elementLimits d.header.elements (s .elements-kept .least) (s .elements-kept .most),
+      inside curveLimits (d .header .«compressibility_points») (s .compressibility-kept .least) (s .compressibility-kept .most),
+      inside curveLimits (d .header .«conductivity_points») (s .conductivity-kept .least) (s .conductivity-kept .most),
+      inside tableLimits (d .header .«table_points») (s .table-kept .least) (s .table-kept .most),
+      inside gravityLimits d.header.gravity (s .gravity-kept .least) (s .gravity-kept .most),
     )
 
 module _ (d : Description) (s : Described d) where
@@ -86,9 +85,9 @@ module _ (d : Description) (s : Described d) where
   unfolding fieldsSound
   sized =
       let a = sizesSound (jobSite d) (givenWater d) in
-      let end = within clockLimits d.end in
-      let budget = within budgetLimits d.budget in
-      let given = eqb d.start 0 || all (λ w. eqb w 0) (givenWater d) in
+      let end = within clockLimits d.header.end in
+      let budget = within budgetLimits d.header.budget in
+      let given = eqb d.header.start 0 || all (λ w. eqb w 0) (givenWater d) in
       both a end (both (a && end) budget (both (a && end && budget) given (passed (s .fields)) .0) .0) .0
 
   pub fixed-described : (start : ℕ) → start ≤ startingWaterLimits .most → Fixed (describedRecord d start)
@@ -99,7 +98,7 @@ module _ (d : Description) (s : Described d) where
     compressibility = s .compressibility;
     conductivity = s .conductivity;
     table = s .table;
-    top = face-holds (d .top) topPressure;
-    bottom = face-holds (d .bottom) _;
+    top = face-holds (d .header .top) topPressure;
+    bottom = face-holds (d .header .bottom) _;
     starting = inside startingWaterLimits start (omega arith) h;
   }

@@ -18,7 +18,7 @@ use Rattle.laws.specs.Every.{every-at}
 use Rattle.numbers.specs.Filled.{first-length}
 use Rattle.numbers.specs.Interval.{within-pos, within-le}
 use Rattle.numbers.specs.Sums.{sum, sum-le}
-use Rattle.rules.specs.Job.{described, describedRecord, jobSite, givenWater, jobCauses}
+use Rattle.rules.specs.Job.{Description, described, describedRecord, jobSite, givenWater, jobCauses}
 use Rattle.rules.specs.Layer.{Site}
 use Rattle.rules.specs.Opening.{openedRecord, refusedOpening, descriptionWater, opening}
 use Rattle.rules.specs.Quantities.{startingWaterLimits, waterLimits}
@@ -29,7 +29,6 @@ use Rattle.rules.specs.declared.answers.Answer.the-variants.{Done, Refused}
 use Rattle.rules.specs.declared.answers.Answered.{Answered}
 use Rattle.rules.specs.declared.answers.Refusal.{Refusal}
 use Rattle.rules.specs.declared.answers.Refusal.the-variants.{StartOffCurve}
-use Rattle.rules.specs.declared.job.Description.{Description}
 
 -- opening refuses a job and leaves the blank record, or is done
 pub opening-either : (job : List ℕ) →
@@ -93,17 +92,17 @@ module _ (d : Description) (s : Described d) (water : List ℕ) (starts : descri
   sound = sound-site (describedRecord d 0) (fixed-described d s 0 (omega arith))
 
   -- as many solids heights and as many given heights as elements
-  solids-many : length (site .solids) ≡ d.elements
+  solids-many : length (site .solids) ≡ d.header.elements
   unfolding jobSite recordSite describedRecord
-  solids-many = first-length d.elements d.solids
+  solids-many = first-length d.header.elements d.solids
 
-  given-many : length (givenWater d) ≡ d.elements
+  given-many : length (givenWater d) ≡ d.header.elements
   unfolding givenWater
-  given-many = first-length d.elements d.water
+  given-many = first-length d.header.elements d.water
 
   on : Starts (site .compressibility) (site .solids) water
   unfolding descriptionWater
-  on = water-starts site (openingLoad site) d.start (givenWater d) water (given-many ∙ sym solids-many) starts
+  on = water-starts site (openingLoad site) d.header.start (givenWater d) water (given-many ∙ sym solids-many) starts
 
   -- the starting water is within its limits
   few : sum water ≤ startingWaterLimits .most

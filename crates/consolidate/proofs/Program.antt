@@ -14,7 +14,8 @@ use Rattle.claims.specs.Described.{described-sound}
 use Rattle.claims.specs.Opened.{opened}
 use Rattle.encoding.specs.Stores.{sets-front}
 use Rattle.job.specs.SoundHeader.{sound-header}
-use Rattle.key.specs.KeyLaws.{opening-done, key-refused, header-whole, key-leaves}
+use Rattle.key.specs.KeyLaws.{opening-done, key-refused, key-leaves}
+use Rattle.opening.specs.Accepted.{header-whole}
 use Rattle.numbers.specs.Arrays.{zeros, overlaid}
 use Rattle.rules.specs.Calls.{called}
 use Rattle.rules.specs.Job.{described, headerKept, headerLength}
@@ -66,7 +67,7 @@ module _ (buffer : List ℕ) where
   number-few job =
       let opened = opening job in
       let d = described job in
-      unless-few (refusalOf (opened .answer)) (runToResult (opened .after) (d .end) (d .budget) buffer) (run-few (opened .after) (d .end) (d .budget))
+      unless-few (refusalOf (opened .answer)) (runToResult (opened .after) (d .header .end) (d .header .budget) buffer) (run-few (opened .after) (d .header .end) (d .header .budget))
 
 -- ---- a job whose key has number 0
 
@@ -86,15 +87,15 @@ module _ (job buffer : List ℕ) (e : (key job buffer) .number ≡ 0) where
   whole = header-whole job accepted
 
   -- which says at most 128 elements
-  pub elements-few : (described job) .elements ≤ 128
+  pub elements-few : (described job) .header .elements ≤ 128
   unfolding headerKept
   elements-few =
       let d = described job in
-      sound-header d.top d.bottom d.elements (d .«compressibility_points») (d .«conductivity_points») (d .«table_points») d.start d.gravity
+      sound-header d.header.top d.header.bottom d.header.elements (d .header .«compressibility_points») (d .header .«conductivity_points») (d .header .«table_points») d.header.start d.header.gravity
       (described-sound job (opened job accepted .no-cause) .header) .elements-kept .most
 
   -- whose result is no longer than the longest
-  pub size-few : resultSize ((described job) .elements) ≤ 5_176
+  pub size-few : resultSize ((described job) .header .elements) ≤ 5_176
   unfolding resultSize
   size-few = omega (arith, elements-few)
 
@@ -104,7 +105,7 @@ module _ (job buffer : List ℕ) (e : (key job buffer) .number ≡ 0) where
 abbrev written : (job : List ℕ) → Returned → (accepted : Bool) → List ℕ
 written job x accepted =
     elim accepted [
-      | true ↦ take (resultSize ((described job) .elements)) (x .buffer)
+      | true ↦ take (resultSize ((described job) .header .elements)) (x .buffer)
       | false ↦ refusedLine (x .number)
     ]
 
@@ -129,12 +130,12 @@ room-is blank = rw blank (length-replicate {A = ℕ} 5_176 0)
 module _ (job buffer : List ℕ) (short : length job ≤ inputMost) (blank : buffer ≡ zeros 5_176) (number : ℕ) (out : List ℕ)
     (number-is : number ≡ (key job buffer) .number) (out-is : out ≡ (key job buffer) .buffer) where
   -- number 0: the first bytes of the buffer
-  front-is : (size : ℕ) → number ≡ 0 → size ≡ resultSize ((described job) .elements) → take size out ≡ programOutput job
+  front-is : (size : ℕ) → number ≡ 0 → size ≡ resultSize ((described job) .header .elements) → take size out ≡ programOutput job
   front-is size e s =
       let zero : (key job (zeros 5_176)) .number ≡ 0 = rw (← blank) (sym number-is ∙ e) in
       rw (s, out-is, blank) (sym (by-test job short true (eq-eqb _ 0 zero)))
 
-  pub result-written : (size : ℕ) → number ≡ 0 → size ≡ resultSize ((described job) .elements) → length out ≡ length buffer →
+  pub result-written : (size : ℕ) → number ≡ 0 → size ≡ resultSize ((described job) .header .elements) → length out ≡ length buffer →
       (out ≡ overlaid (programOutput job) buffer) × (size ≡ length (programOutput job))
   result-written size e s kept =
       let front = front-is size e s in

@@ -2,14 +2,12 @@
 use Prim.Native.Nat.{ℕ, zero, suc, _+_, _*_, _-_, _^_, _≤_, _<_}
 use native.Mathlib.Nat.{pow-succ', pow-le-pow-right, mul-le-mul-left, add-zero}
 use native.Mathlib.Omega.{arith}
-use lib.ListN.{getD, set, replicate}
+use lib.ListN.{getD}
 use mathlib.Core.List.{List}
 use mathlib.Core.Path.{_≡_, refl, sym, _∙_}
-use Rattle.numbers.specs.Arrays.{zeros}
 use Rattle.numbers.specs.Bytes.{number}
-use Rattle.numbers.specs.Filled.{filled-zero, filled-store, length-zeros}
 use Rattle.numbers.specs.LittleEndian.{AreBytes, number-suc}
-use Rattle.rules.specs.Job.{field, firsts, pairLength}
+use Rattle.rules.specs.Job.{field}
 
 -- a field of no byte
 pub field-zero : (offset : ℕ) (job : List ℕ) → field 0 offset job ≡ 0
@@ -45,14 +43,3 @@ field-lt (suc size) offset job h =
 -- one byte more than a field of less than 8 bytes is a number of 64 bits
 pub room : (k n b : ℕ) → k < 8 → n < 256 ^ k → b < 256 → b + 256 * n < 2 ^ 64
 room k n b h l s = omega (arith, pow-le-pow-right {n = 256} (omega arith) {i = k} {j = 7} (omega arith))
-
--- no pair read
-pub firsts-zero : (size offset : ℕ) (job : List ℕ) → replicate size 0 ≡ firsts size offset 0 job
-unfolding firsts zeros
-firsts-zero size offset job = sym (filled-zero (zeros size) (λ i. field 8 (offset + pairLength * i) job))
-
--- one pair more, as a loop stores it
-pub firsts-store : (size offset n : ℕ) (job array : List ℕ) (a : ℕ) → n < size → array ≡ firsts size offset n job →
-    a ≡ field 8 (offset + pairLength * n) job → set array n a ≡ firsts size offset (n + 1) job
-unfolding firsts
-firsts-store size offset n job array a h e k = filled-store _ _ _ _ _ (rw (length-zeros size) h) e k

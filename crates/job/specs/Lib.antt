@@ -3,3 +3,4 @@ pub mod Framing
 pub mod SoundHeader
 pub mod FirstCause
 pub mod FramingLaws
+pub mod Pairs

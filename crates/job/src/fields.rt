@@ -2,7 +2,8 @@
 ghost use lib.ListN.{length};
 ghost use mathlib.Core.Path.{_≡_};
 ghost use Prim.Native.Nat.{_+_, _*_, _≤_, _<_};
-ghost use Rattle.rules.specs.Job.{field, firsts, pairLength};
+ghost use Rattle.numbers.specs.Arrays.{filled};
+ghost use Rattle.rules.specs.Job.{field, pairLength};
 
 pub const HEADER_LENGTH: usize = 48;
 
@@ -31,30 +32,14 @@ pub fn byte(job: &[u8], offset: usize) -> u8
     job[offset]
 }
 
-// The first fields of pairs that begin at an offset, in an array for elements. The second fields begin 8 bytes on.
-pub fn firsts_128(job: &[u8], offset: usize, count: usize) -> [u64; 128]
-    requires { ⌜ (count ≤ 128) × (offset + pairLength * count ≤ length (now job) + 8) ⌝ }
-    ensures { λ r. ⌜ r ≡ firsts 128 offset count (now (job .entry)) ⌝ }
+// Puts the first fields of so many pairs that begin at an offset in the first places of an array. The second fields begin 8 bytes on.
+pub fn read_firsts<'a>(job: &'a [u8], offset: usize, count: usize, numbers: &mut [u64])
+    requires { ⌜ (count ≤ length (now numbers)) × (offset + pairLength * count ≤ length (now job) + 8) ⌝ }
+    ensures { λ _. ⌜ now (numbers .exit) ≡ filled (now (numbers .entry)) count (λ i. field 8 (offset + pairLength * i) (now (job .entry))) ⌝ }
 {
-    let mut heights = [0; 128];
-    let mut i = 0;
-    while i < count {
-        heights[i] = field(job, 8, offset + PAIR_LENGTH * i);
-        i += 1;
-    }
-    heights
-}
-
-// The same in an array for points.
-pub fn firsts_64(job: &[u8], offset: usize, count: usize) -> [u64; 64]
-    requires { ⌜ (count ≤ 64) × (offset + pairLength * count ≤ length (now job) + 8) ⌝ }
-    ensures { λ r. ⌜ r ≡ firsts 64 offset count (now (job .entry)) ⌝ }
-{
-    let mut numbers = [0; 64];
-    let mut i = 0;
+    let mut i: usize = 0;
     while i < count {
         numbers[i] = field(job, 8, offset + PAIR_LENGTH * i);
         i += 1;
     }
-    numbers
 }

@@ -7,6 +7,7 @@ ghost use Rattle.rules.specs.Record.{headerSound};
 use crate::fields;
 use crate::fields::HEADER_LENGTH;
 use crate::fields::PAIR_LENGTH;
+use rules::job::Header;
 use rules::quantities::CurvePoints;
 use rules::quantities::Elements;
 use rules::quantities::Flag;
@@ -59,6 +60,27 @@ pub fn header_kept(job: &[u8]) -> bool
         fields::byte(job, 11),
         fields::field(job, 2, 12),
     )
+}
+
+// The numbers of a job's header.
+pub fn read_header(job: &[u8]) -> Header
+    requires { ⌜ headerLength ≤ length (now job) ⌝ }
+    ensures { λ r. ⌜ r ≡ (described (now (job .entry))) .header ⌝ }
+{
+    Header {
+        top: fields::byte(job, 5),
+        bottom: fields::byte(job, 6),
+        elements: fields::byte(job, 7) as usize,
+        compressibility_points: fields::byte(job, 8) as usize,
+        conductivity_points: fields::byte(job, 9) as usize,
+        table_points: fields::byte(job, 10) as usize,
+        start: fields::byte(job, 11),
+        gravity: fields::field(job, 2, 12),
+        top_level: fields::field(job, 8, 16),
+        bottom_level: fields::field(job, 8, 24),
+        end: fields::field(job, 8, 32),
+        budget: fields::field(job, 8, 40),
+    }
 }
 
 // The length that a job's four counts ask for.

@@ -1,33 +1,32 @@
 -- The key by what opening answers, and by the room for a result; what it leaves of the buffer.
 use Prim.Native.Nat.{ℕ, _≤_, _<_}
 use native.Mathlib.Omega.{arith}
-use lib.Dec.{ltb, nltb→le}
+use lib.IntN.{ℤ}
 use lib.ListN.{length, take}
 use lib.Seq.{take-append-seam}
-use mathlib.Core.Bool.{true, not, _&&_}
+use mathlib.Core.Bool.{true, _&&_}
 use mathlib.Core.List.{List}
 use mathlib.Core.Logic.{⊎-elim}
 use mathlib.Core.Option.{Option, none, some}
 use mathlib.Core.Path.{_≡_, refl, sym, ap, _∙_}
-use Rattle.claims.specs.Causes.{neither, none-holds}
 use Rattle.claims.specs.Described.{described-sound}
 use Rattle.claims.specs.Opened.{opening-either, opened, opened-record}
 use Rattle.claims.specs.Stands.{stands-layer}
 use Rattle.key.specs.Layers.{called-layer, called-elements}
-use Rattle.laws.specs.Every.{Every}
-use Rattle.numbers.specs.Arrays.{overlaid}
+use Rattle.numbers.specs.Arrays.{firstPlaces, overlaid}
 use Rattle.numbers.specs.Filled.{first-length, overlaid-take}
 use Rattle.numbers.specs.Searches.{passed, both}
+use Rattle.result.specs.Fields.{layerWith, othersOf}
 use Rattle.result.specs.ResultLaws.{result-length, refused-for-room, not-refused, result-written, number-is, buffer-is}
 use Rattle.rules.proofs.Limits.{within-parts}
 use Rattle.rules.specs.Calls.{called}
-use Rattle.rules.specs.Job.{described, describedRecord, jobSite, givenWater, fieldsSound, headerLength, marked, jobCauses}
+use Rattle.rules.specs.Job.{described, describedRecord, jobSite, givenWater, fieldsSound}
 use Rattle.rules.specs.Key.{resultOf, runToResult, key}
 use Rattle.rules.specs.Layer.{Site, State}
 use Rattle.rules.specs.Opening.{openedRecord, refusedOpening, descriptionWater, opening}
 use Rattle.rules.specs.Outcome.{refusalOf}
 use Rattle.rules.specs.Quantities.{within, clockLimits, budgetLimits}
-use Rattle.rules.specs.Record.{recordSite, recordState, sizesSound, isLayer}
+use Rattle.rules.specs.Record.{recordSite, recordState, withState, sizesSound, isLayer}
 use Rattle.rules.specs.Refusals.{firstCause, refusalNumber}
 use Rattle.rules.specs.Result.{Returned, withheld, resultBytes, resultSize, resultRefusal, result}
 use Rattle.rules.specs.Start.{openingState}
@@ -39,6 +38,7 @@ use Rattle.rules.specs.declared.answers.Refusal.{Refusal}
 use Rattle.rules.specs.declared.answers.Refusal.the-variants.{StartOffCurve, ShortBuffer}
 use Rattle.rules.specs.declared.answers.Stop.{Stop}
 use Rattle.rules.specs.declared.record.Record.{Record}
+use Rattle.run.specs.Loop.{stateIn}
 
 -- ---- the room for a layer's result
 
@@ -76,6 +76,17 @@ module _ (r : Record) (end budget : ℕ) (buffer : List ℕ) (is : isLayer r ≡
     unfolding resultOf
     ran-written stop steps e = by-run (Ran stop steps) e ∙ result-written (a .after) stop steps buffer ran-layer ran-room
 
+-- the record after a run, by its fields
+pub ran-fields : (r : Record) (water : List ℕ) (load : ℤ) (clock : ℕ) (topOutflow bottomOutflow : ℤ) →
+    water ≡ overlaid (firstPlaces r.elements water) r.water →
+    layerWith r.elements (r .«compressibility_points») r.gravity (r .«top_level») r.solids water (r .«compressibility_stress»)
+    (r .«compressibility_void») load clock topOutflow bottomOutflow (r .«starting_water») (othersOf r) ≡
+    withState r (stateIn r.elements water load clock topOutflow bottomOutflow)
+unfolding withState
+ran-fields r water load clock topOutflow bottomOutflow kept =
+    ap (λ (w : List ℕ). layerWith r.elements (r .«compressibility_points») r.gravity (r .«top_level») r.solids w (r .«compressibility_stress»)
+    (r .«compressibility_void») load clock topOutflow bottomOutflow (r .«starting_water») (othersOf r)) kept
+
 -- ---- what opening answers
 
 -- opening is done where it does not refuse
@@ -87,13 +98,13 @@ module _ (job buffer : List ℕ) where
   by-answer : (answer : Answer) → (opening job) .answer ≡ answer →
       key job buffer ≡ elim (refusalOf answer) [
         | some cause ↦ withheld cause buffer
-        | none ↦ runToResult ((opening job) .after) ((described job) .end) ((described job) .budget) buffer
+        | none ↦ runToResult ((opening job) .after) ((described job) .header .end) ((described job) .header .budget) buffer
       ]
   unfolding key
   by-answer answer e =
       ap (λ (a : Answer). elim (refusalOf a) as (λ _. Returned) [
         | some cause ↦ withheld cause buffer
-        | none ↦ runToResult ((opening job) .after) ((described job) .end) ((described job) .budget) buffer
+        | none ↦ runToResult ((opening job) .after) ((described job) .header .end) ((described job) .header .budget) buffer
       ]) e
 
   -- a refused job
@@ -105,13 +116,6 @@ module _ (job buffer : List ℕ) where
 -- ---- a job that opening accepts
 
 module _ (job : List ℕ) (done : (opening job) .answer ≡ Done) where
-  -- it has a whole header
-  pub header-whole : headerLength ≤ length job
-  unfolding jobCauses Every
-  header-whole =
-      let short = ltb (length job) headerLength in
-      nltb→le (length job) headerLength (neither short (not (marked job)) (none-holds (jobCauses job) (opened job done .no-cause) .0) .0)
-
   -- its record is a layer whose clock is 0
   opened-layer : isLayer ((opening job) .after) ≡ true
   opened-layer = stands-layer _ _ _ _ (opened-record job done)
@@ -121,38 +125,37 @@ module _ (job : List ℕ) (done : (opening job) .answer ≡ Done) where
   opened-clock = ap (λ (s : State). s .clock) (opened-record job done .state-is)
 
   -- and which has as many elements as the job describes
-  opened-elements : (opening job) .after .elements ≡ (described job) .elements
+  opened-elements : (opening job) .after .elements ≡ (described job) .header .elements
   unfolding recordSite jobSite describedRecord
   opened-elements =
       let d = described job in
       let r = (opening job) .after in
       sym (first-length r.elements r.solids) ∙ ap (λ (site : Site). length (site .solids)) (opened-record job done .site-is) ∙
-      first-length d.elements d.solids
+      first-length d.header.elements d.solids
 
   -- its end and budget keep their limits
-  pub end-and-budget : ((described job) .end ≤ clockLimits .most) × ((described job) .budget ≤ budgetLimits .most)
+  end-and-budget : ((described job) .header .end ≤ clockLimits .most) × ((described job) .header .budget ≤ budgetLimits .most)
   unfolding fieldsSound
   end-and-budget =
       let d = described job in
       let sizes = sizesSound (jobSite d) (givenWater d) in
-      let end = within clockLimits (d .end) in
-      let budget = within budgetLimits (d .budget) in
+      let end = within clockLimits (d .header .end) in
+      let budget = within budgetLimits (d .header .budget) in
       let (first3, _) = both (sizes && end && budget) _ (passed (described-sound job (opened job done .no-cause) .fields)) in
       let (first2, few) = both (sizes && end) budget first3 in
       let (_, short) = both sizes end first2 in
-      (within-parts clockLimits (d .end) short .1, within-parts budgetLimits (d .budget) few .1)
+      (within-parts clockLimits (d .header .end) short .1, within-parts budgetLimits (d .header .budget) few .1)
 
-  module _ (o : Answered) (opens : o ≡ opening job) (end budget : ℕ) where
-    -- it can be run within limits
-    pub can-run : end ≤ clockLimits .most → budget ≤ budgetLimits .most →
-        (isLayer (o .after) ≡ true) × ((o .after .clock .0 ≤ end) × (end ≤ clockLimits .most) × (budget ≤ budgetLimits .most))
-    can-run short few = rw opens (opened-layer, (rw opened-clock (omega arith), short, few))
+  module _ (o : Record) (opens : o ≡ (opening job) .after) (end budget : ℕ) (ends : end ≡ (described job) .header .end)
+      (lasts : budget ≡ (described job) .header .budget) where
+    -- it can be run
+    pub can-run : (isLayer o ≡ true) × ((o .clock .0 ≤ end) × (end ≤ clockLimits .most) × (budget ≤ budgetLimits .most))
+    can-run = rw (opens, ends, lasts) (opened-layer, (rw opened-clock (omega arith), end-and-budget .0, end-and-budget .1))
 
     -- its key is the result of a run to its end within its budget
-    pub key-run : end ≡ (described job) .end → budget ≡ (described job) .budget →
-        (buffer : List ℕ) → key job buffer ≡ runToResult (o .after) end budget buffer
+    pub key-run : (buffer : List ℕ) → key job buffer ≡ runToResult o end budget buffer
     unfolding refusalOf
-    key-run e k buffer = rw (opens, e, k) (by-answer job buffer Done done)
+    key-run buffer = rw (opens, ends, lasts) (by-answer job buffer Done done)
 
 -- ---- what is left of the buffer
 
@@ -198,7 +201,7 @@ module _ (buffer : List ℕ) (n : ℕ) where
 
 module _ (job buffer : List ℕ) where
   abbrev size : ℕ
-  size = resultSize ((described job) .elements)
+  size = resultSize ((described job) .header .elements)
 
   leaves-refused : (cause : Refusal) → (opening job) .answer ≡ Refused cause → Leaves buffer size (key job buffer)
   unfolding refusalOf withheld

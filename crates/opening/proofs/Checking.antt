@@ -9,14 +9,13 @@ use Rattle.opening.specs.Causes.{describedCauses, checkedAnswer, describ
 use Rattle.opening.specs.declared.causes.Checked.{Checked}
 use Rattle.opening.specs.declared.causes.Checked.the-variants.{Sound, Refused}
 use Rattle.rules.specs.Curve.{compressibilitySound, conductivitySound}
-use Rattle.rules.specs.Job.{fieldsSound, jobSite}
+use Rattle.rules.specs.Job.{Description, fieldsSound, jobSite}
 use Rattle.rules.specs.Load.{tableSound}
 use Rattle.rules.specs.Refusals.{_if_, firstCause}
 use Rattle.rules.specs.declared.answers.Refusal.{Refusal}
 use Rattle.rules.specs.declared.answers.Refusal.the-variants.{FieldOutside, CompressibilityCurve, ConductivityCurve, LoadTable}
-use Rattle.rules.specs.declared.job.Description.{Description}
 
-not-sound : (cause : Refusal) → Refused cause ≡ Sound → ⊥
+pub not-sound : (cause : Refusal) → Refused cause ≡ Sound → ⊥
 not-sound cause e = let z : _≡_ {A = ℕ} 0 1 = cc in omega arith
 
 -- the first of four causes, test by test

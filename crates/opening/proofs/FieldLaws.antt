@@ -11,10 +11,9 @@ use Rattle.job.specs.SoundHeader.{SoundHeader, sound-header}
 use Rattle.numbers.specs.Arrays.{firstPlaces}
 use Rattle.numbers.specs.Lists.{all}
 use Rattle.numbers.specs.Searches.{passed, both, is-true}
-use Rattle.rules.specs.Job.{fieldsSound, givenWater, headerKept, jobSite, describedRecord, numberedFace}
+use Rattle.rules.specs.Job.{Description, fieldsSound, givenWater, headerKept, jobSite, describedRecord, numberedFace}
 use Rattle.rules.specs.Quantities.{within, withinℤ, levelLimits, solidsLimits, waterLimits, clockLimits, budgetLimits, from_to_}
 use Rattle.rules.specs.Record.{sizesSound, closedAtZero, recordSite}
-use Rattle.rules.specs.declared.job.Description.{Description}
 use Rattle.rules.specs.declared.quantities.Pressure.{Pressure}
 use Rattle.rules.specs.declared.quantities.Face.the-variants.{Closed, Drained}
 use Rattle.holdings.specs.Sizes.{SoundSizes, sound-sizes}
@@ -43,25 +42,25 @@ module _ (d : Description) where
   -- cause 5 by its tests
   pub fields-by :
       fieldsSound d ≡
-      (within levelLimits (d .«top_level») && within levelLimits (d .«bottom_level») && (not (eqb d.bottom 0) || eqb (d .«bottom_level») 0) &&
-      all (within solidsLimits) (firstPlaces d.elements d.solids) && all (within waterLimits) (firstPlaces d.elements d.water) &&
-      within clockLimits d.end && within budgetLimits d.budget && (eqb d.start 0 || all (within (from 0 to 0)) (firstPlaces d.elements d.water)))
+      (within levelLimits (d .header .«top_level») && within levelLimits (d .header .«bottom_level») && (not (eqb d.header.bottom 0) || eqb (d .header .«bottom_level») 0) &&
+      all (within solidsLimits) (firstPlaces d.header.elements d.solids) && all (within waterLimits) (firstPlaces d.header.elements d.water) &&
+      within clockLimits d.header.end && within budgetLimits d.header.budget && (eqb d.header.start 0 || all (within (from 0 to 0)) (firstPlaces d.header.elements d.water)))
   unfolding fieldsSound sizesSound jobSite describedRecord recordSite givenWater withinℤ
   fields-by = rw (closed-by, all-zero)
 
   -- what the numbers of its header keep
   pub kept-header : headerKept d ≡ true →
-      SoundHeader d.top d.bottom d.elements (d .«compressibility_points») (d .«conductivity_points») (d .«table_points») d.start d.gravity
+      SoundHeader d.header.top d.header.bottom d.header.elements (d .header .«compressibility_points») (d .header .«conductivity_points») (d .header .«table_points») d.header.start d.header.gravity
   unfolding headerKept
   kept-header e = sound-header _ _ _ _ _ _ _ _ e
 
   -- what levels, solids and water keep
-  pub kept-sizes : fieldsSound d ≡ true → SoundSizes d.elements (pos (d .«top_level»)) (pos (d .«bottom_level»)) d.solids d.water
+  pub kept-sizes : fieldsSound d ≡ true → SoundSizes d.header.elements (pos (d .header .«top_level»)) (pos (d .header .«bottom_level»)) d.solids d.water
   unfolding fieldsSound jobSite describedRecord recordSite givenWater
   kept-sizes e =
       let sizes = sizesSound (jobSite d) (givenWater d) in
-      let two = sizes && within clockLimits d.end in
-      let (first3, given) = both (two && within budgetLimits d.budget) _ (passed e) in
+      let two = sizes && within clockLimits d.header.end in
+      let (first3, given) = both (two && within budgetLimits d.header.budget) _ (passed e) in
       let (first2, budgeted) = both two _ first3 in
       let (sized, ended) = both sizes _ first2 in
-      sound-sizes (jobSite d) d.elements d.solids d.water refl (is-true sizes sized)
+      sound-sizes (jobSite d) d.header.elements d.solids d.water refl (is-true sizes sized)

@@ -2,6 +2,4 @@
 pub mod FieldLaws
 pub mod Checking
 pub mod Starting
-pub mod StartHeights
-pub mod OpenedRecord
 pub mod OpeningLaws

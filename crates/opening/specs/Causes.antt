@@ -8,7 +8,7 @@ use mathlib.Core.Path.{_≡_, refl}
 use Rattle.opening.specs.declared.causes.Checked.{Checked}
 use Rattle.opening.specs.declared.causes.Checked.the-variants.{Sound, Refused}
 use Rattle.rules.specs.Curve.{compressibilitySound, conductivitySound}
-use Rattle.rules.specs.Job.{described, fieldsSound, jobCauses, jobSite}
+use Rattle.rules.specs.Job.{Description, described, fieldsSound, jobCauses, jobSite}
 use Rattle.rules.specs.Load.{tableSound}
 use Rattle.rules.specs.Opening.{descriptionWater, openedRecord, refusedOpening}
 use Rattle.rules.specs.Refusals.{Trial, _if_, firstCause}
@@ -16,7 +16,6 @@ use Rattle.rules.specs.declared.answers.Answer.the-variants.{Done}
 use Rattle.rules.specs.declared.answers.Answered.{Answered}
 use Rattle.rules.specs.declared.answers.Refusal.{Refusal}
 use Rattle.rules.specs.declared.answers.Refusal.the-variants.{FieldOutside, CompressibilityCurve, ConductivityCurve, LoadTable, StartOffCurve}
-use Rattle.rules.specs.declared.job.Description.{Description}
 
 unfoldable pub describedCauses : Description → List Trial
 unfolding fieldsSound jobSite compressibilitySound conductivitySound tableSound

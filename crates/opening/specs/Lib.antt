@@ -1,4 +1,6 @@
--- What the contracts of an opening cite beside the rules, and what a refused one leaves.
+-- What the contracts of an opening cite beside the rules; what a refused one leaves; and the record of an accepted job by its parts.
 pub mod Causes
-pub mod Started
+pub mod Lent
 pub mod Blank
+pub mod OpenedRecord
+pub mod Accepted

@@ -2,43 +2,55 @@
 ghost use mathlib.Core.Bool.{true};
 ghost use mathlib.Core.Path.{_≡_};
 ghost use Rattle.opening.specs.Causes.{describedAnswer};
-ghost use Rattle.rules.specs.Job.{headerKept};
+ghost use Rattle.opening.specs.Lent.{descriptionOf};
+ghost use Rattle.rules.specs.Job.{Description, headerKept};
 use crate::fields;
 use points::checks;
 use rules::answers::Refusal;
-use rules::job::Description;
+use rules::job::Header;
 
-// Whether a description is sound, or the cause for which it is refused.
+// Whether a job is sound, or the cause for which it is refused.
 pub enum Checked {
     Sound,
     Refused(Refusal),
 }
 
-// The first of these causes that holds.
-pub fn described_cause(d: Description) -> Checked
-    requires { ⌜ headerKept d ≡ true ⌝ }
-    ensures { λ r. ⌜ r ≡ describedAnswer d ⌝ }
+// The first of these causes that holds of a description.
+pub fn described_cause<'a>(
+    header: Header,
+    solids: &'a [u64; 128],
+    water: &'a [u64; 128],
+    compressibility_stress: &'a [u64; 64],
+    compressibility_void: &'a [u64; 64],
+    conductivity_void: &'a [u64; 64],
+    conductivity: &'a [u64; 64],
+    table_time: &'a [u64; 64],
+    table_load: &'a [u64; 64],
+) -> Checked
+    ghost { Description }
+    requires { λ d. ⌜ descriptionOf header (now solids) (now water) (now «compressibility_stress») (now «compressibility_void») (now «conductivity_void») (now conductivity) (now «table_time») (now «table_load») ≡ d ⌝ }
+    requires { λ d. ⌜ headerKept d ≡ true ⌝ }
+    ensures { λ d r. ⌜ r ≡ describedAnswer d ⌝ }
 {
-    let m = d.compressibility_points;
-    let k = d.conductivity_points;
-    let times = d.table_points;
-    if !fields::fields_sound(d) {
+    let m = header.compressibility_points;
+    let k = header.conductivity_points;
+    if !fields::fields_sound(header, solids, water) {
         return Checked::Refused(Refusal::FieldOutside);
     }
-    if !checks::compressibility_sound(m, &d.compressibility_void, &d.compressibility_stress) {
+    if !checks::compressibility_sound(m, compressibility_void, compressibility_stress) {
         return Checked::Refused(Refusal::CompressibilityCurve);
     }
     if !checks::conductivity_sound(
         k,
-        &d.conductivity_void,
-        &d.conductivity,
+        conductivity_void,
+        conductivity,
         m,
-        &d.compressibility_void,
-        &d.compressibility_stress,
+        compressibility_void,
+        compressibility_stress,
     ) {
         return Checked::Refused(Refusal::ConductivityCurve);
     }
-    if !table::table_sound(times, &d.table_time, &d.table_load) {
+    if !table::table_sound(header.table_points, table_time, table_load) {
         return Checked::Refused(Refusal::LoadTable);
     }
     Checked::Sound

@@ -1,15 +1,17 @@
-// The record of an opened job, and the one that stands where a job is refused.
-ghost use mathlib.Core.Bool.{true};
-ghost use mathlib.Core.Option.{some};
+// The record that stands where a job is refused, and the numbers of an opened one.
+ghost use lib.IntN.{pos};
+ghost use lib.ListN.{getD};
 ghost use mathlib.Core.Path.{_≡_};
-ghost use Rattle.numbers.specs.Arrays.{firstPlaces, overlaid, zeros};
-ghost use Rattle.opening.specs.Causes.{describedAnswer};
-ghost use Rattle.opening.specs.declared.causes.Checked.the-variants.{Sound};
-ghost use Rattle.rules.specs.Job.{headerKept, numberedFace};
-ghost use Rattle.rules.specs.Opening.{blankRecord, descriptionWater, openedRecord};
+ghost use Prim.Native.Nat.{ℕ, _≤_, _<_};
+ghost use Rattle.numbers.specs.Arrays.{firstPlaces};
+ghost use Rattle.numbers.specs.Sums.{sum};
+ghost use Rattle.rules.specs.Job.{numberedFace};
+ghost use Rattle.rules.specs.Layer.{topPressure, bottomPressure};
+ghost use Rattle.rules.specs.Opening.{blankRecord};
+ghost use Rattle.rules.specs.Quantities.{levelLimits, stressLimits, waterLimits};
 use holdings::balance;
 use holdings::faces;
-use rules::job::Description;
+use rules::job::Header;
 use rules::quantities::Clock;
 use rules::quantities::Face;
 use rules::quantities::Head;
@@ -58,42 +60,42 @@ pub fn numbered_face(number: u8, held: Pressure) -> Face
     Face::Drained(held)
 }
 
-// The record of a sound description, opened with the water of its start.
-pub fn opened(d: Description, water: [u64; 128]) -> Record
-    requires { ⌜ (headerKept d ≡ true) × (describedAnswer d ≡ Sound) ⌝ }
-    requires { ⌜ descriptionWater d ≡ some (firstPlaces (d .elements) water) ⌝ }
-    requires { ⌜ water ≡ overlaid (firstPlaces (d .elements) water) (zeros 128) ⌝ }
-    ensures { λ r. ⌜ r ≡ openedRecord d (firstPlaces (d .elements) water) ⌝ }
+// What an opened record holds beside a header's counts and its arrays.
+pub struct Opened {
+    pub top: Face,
+    pub bottom: Face,
+    pub top_level: i64,
+    pub bottom_level: i64,
+    pub load: i64,
+    pub starting_water: u64,
+}
+
+// That of a header, the water of its start and the loads of its table.
+pub fn opened_numbers<'a>(
+    header: Header,
+    water: &'a [u64; 128],
+    table_load: &'a [u64; 64],
+) -> Opened
+    requires { ⌜ (header .«top_level» ≤ levelLimits .most) × (header .«bottom_level» ≤ levelLimits .most) ⌝ }
+    requires { ⌜ getD (now «table_load») 0 0 ≤ stressLimits .most ⌝ }
+    requires { ⌜ (header .elements ≤ 128) × ((j : ℕ) → j < header .elements → getD (now water) j 0 ≤ waterLimits .most) ⌝ }
+    ensures { λ r. ⌜ (r .top ≡ numberedFace (header .top) topPressure) × (r .bottom ≡ numberedFace (header .bottom) (bottomPressure (pos (header .«top_level»)) (pos (header .«bottom_level»)))) ⌝ }
+    ensures { λ r. ⌜ (r .«top_level» ≡ pos (header .«top_level»)) × (r .«bottom_level» ≡ pos (header .«bottom_level»)) ⌝ }
+    ensures { λ r. ⌜ (r .load ≡ pos (getD (now («table_load» .entry)) 0 0)) × (r .«starting_water» ≡ sum (firstPlaces (header .elements) (now (water .entry)))) ⌝ }
 {
-    let top_level = d.top_level as i64;
-    let bottom_level = d.bottom_level as i64;
+    let top_level = header.top_level as i64;
+    let bottom_level = header.bottom_level as i64;
     let held = faces::bottom_pressure(top_level, bottom_level);
-    let top = numbered_face(d.top, Pressure(0));
-    let bottom = numbered_face(d.bottom, held);
-    let load = d.table_load[0] as i64;
-    let starting_water = balance::total_water(d.elements, &water);
-    Record {
+    let top = numbered_face(header.top, Pressure(0));
+    let bottom = numbered_face(header.bottom, held);
+    let load = table_load[0] as i64;
+    let starting_water = balance::total_water(header.elements, water);
+    Opened {
         top,
         bottom,
-        elements: d.elements,
-        compressibility_points: d.compressibility_points,
-        conductivity_points: d.conductivity_points,
-        table_points: d.table_points,
-        gravity: d.gravity,
-        top_level: Head(top_level),
-        bottom_level: Head(bottom_level),
-        solids: d.solids,
-        water,
-        compressibility_stress: d.compressibility_stress,
-        compressibility_void: d.compressibility_void,
-        conductivity_void: d.conductivity_void,
-        conductivity: d.conductivity,
-        table_time: d.table_time,
-        table_load: d.table_load,
-        load: Pressure(load),
-        clock: Clock(0),
-        top_outflow: 0,
-        bottom_outflow: 0,
+        top_level,
+        bottom_level,
+        load,
         starting_water,
     }
 }

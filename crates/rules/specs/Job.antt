@@ -15,7 +15,7 @@ use Rattle.rules.specs.Load.{tableSound}
 use Rattle.rules.specs.Record.{headerSound, sizesSound, recordSite}
 use Rattle.rules.specs.Refusals.{Trial, _if_}
 use Rattle.rules.specs.declared.answers.Refusal.the-variants.{ShortOrUnmarked, OtherVersion, HeaderOutside, WrongLength, FieldOutside, CompressibilityCurve, ConductivityCurve, LoadTable}
-use Rattle.rules.specs.declared.job.Description.{Description}
+use Rattle.rules.specs.declared.job.Header.{Header}
 use Rattle.rules.specs.declared.quantities.Face.{Face}
 use Rattle.rules.specs.declared.quantities.Face.the-variants.{Closed, Drained}
 use Rattle.rules.specs.declared.quantities.Pressure.{Pressure}
@@ -46,7 +46,19 @@ unfoldable pub seconds : (size offset count : ℕ) → List ℕ → List ℕ
 unfolding firsts
 seconds size offset count job = firsts size (offset + 8) count job
 
--- what a job's bytes say, once cause 3 is tested
+-- what a job's bytes say: the numbers of its header, and the fields of its pairs. Array places past a count are 0
+pub record Description : Type 0 where
+  pub header : Header
+  pub solids : List ℕ
+  pub water : List ℕ
+  pub compressibilityStress : List ℕ
+  pub compressibilityVoid : List ℕ
+  pub conductivityVoid : List ℕ
+  pub conductivity : List ℕ
+  pub tableTime : List ℕ
+  pub tableLoad : List ℕ
+
+-- that of a job, once cause 3 is tested
 unfoldable pub described : List ℕ → Description
 unfolding field firsts seconds
 described job =
@@ -58,26 +70,28 @@ described job =
     let conductivityAt = compressibilityAt + pairLength * compressibilityPoints in
     let tableAt = conductivityAt + pairLength * conductivityPoints in
     record {
-      top = field 1 5 job;
-      bottom = field 1 6 job;
-      elements = elements;
-      «compressibility_points» = compressibilityPoints;
-      «conductivity_points» = conductivityPoints;
-      «table_points» = tablePoints;
-      start = field 1 11 job;
-      gravity = field 2 12 job;
-      «top_level» = field 8 16 job;
-      «bottom_level» = field 8 24 job;
-      end = field 8 32 job;
-      budget = field 8 40 job;
+      header = record {
+        top = field 1 5 job;
+        bottom = field 1 6 job;
+        elements = elements;
+        «compressibility_points» = compressibilityPoints;
+        «conductivity_points» = conductivityPoints;
+        «table_points» = tablePoints;
+        start = field 1 11 job;
+        gravity = field 2 12 job;
+        «top_level» = field 8 16 job;
+        «bottom_level» = field 8 24 job;
+        end = field 8 32 job;
+        budget = field 8 40 job;
+      };
       solids = firsts 128 headerLength elements job;
       water = seconds 128 headerLength elements job;
-      «compressibility_stress» = firsts 64 compressibilityAt compressibilityPoints job;
-      «compressibility_void» = seconds 64 compressibilityAt compressibilityPoints job;
-      «conductivity_void» = firsts 64 conductivityAt conductivityPoints job;
+      compressibilityStress = firsts 64 compressibilityAt compressibilityPoints job;
+      compressibilityVoid = seconds 64 compressibilityAt compressibilityPoints job;
+      conductivityVoid = firsts 64 conductivityAt conductivityPoints job;
       conductivity = seconds 64 conductivityAt conductivityPoints job;
-      «table_time» = firsts 64 tableAt tablePoints job;
-      «table_load» = seconds 64 tableAt tablePoints job;
+      tableTime = firsts 64 tableAt tablePoints job;
+      tableLoad = seconds 64 tableAt tablePoints job;
     }
 
 -- the face that a number says: 0 is closed
@@ -88,23 +102,23 @@ numberedFace number held = elim (eqb number 0) [ true ↦ Closed | false ↦ Dra
 unfoldable pub describedRecord : Description → (startingWater : ℕ) → Record
 unfolding numberedFace topPressure bottomPressure zeros
 describedRecord d startingWater = record {
-  top = numberedFace d.top topPressure;
-  bottom = numberedFace d.bottom (bottomPressure (pos (d .«top_level»)) (pos (d .«bottom_level»)));
-  elements = d.elements;
-  «compressibility_points» = d .«compressibility_points»;
-  «conductivity_points» = d .«conductivity_points»;
-  «table_points» = d .«table_points»;
-  gravity = d.gravity;
-  «top_level» = head (pos (d .«top_level»));
-  «bottom_level» = head (pos (d .«bottom_level»));
+  top = numberedFace d.header.top topPressure;
+  bottom = numberedFace d.header.bottom (bottomPressure (pos (d .header .«top_level»)) (pos (d .header .«bottom_level»)));
+  elements = d.header.elements;
+  «compressibility_points» = d .header .«compressibility_points»;
+  «conductivity_points» = d .header .«conductivity_points»;
+  «table_points» = d .header .«table_points»;
+  gravity = d.header.gravity;
+  «top_level» = head (pos (d .header .«top_level»));
+  «bottom_level» = head (pos (d .header .«bottom_level»));
   solids = d.solids;
   water = zeros 128;
-  «compressibility_stress» = d .«compressibility_stress»;
-  «compressibility_void» = d .«compressibility_void»;
-  «conductivity_void» = d .«conductivity_void»;
+  «compressibility_stress» = d .compressibilityStress;
+  «compressibility_void» = d .compressibilityVoid;
+  «conductivity_void» = d .conductivityVoid;
   conductivity = d.conductivity;
-  «table_time» = d .«table_time»;
-  «table_load» = d .«table_load»;
+  «table_time» = d .tableTime;
+  «table_load» = d .tableLoad;
   load = pressure (pos 0);
   clock = record { 0 = 0 };
   «top_outflow» = pos 0;
@@ -120,26 +134,26 @@ jobSite d = recordSite (describedRecord d 0)
 -- the water heights that it gives
 unfoldable pub givenWater : Description → List ℕ
 unfolding firstPlaces
-givenWater d = firstPlaces d.elements d.water
+givenWater d = firstPlaces d.header.elements d.water
 
 -- cause 5: level, end, budget, solids and water keep their limits, and in start 1 no water is given
 unfoldable pub fieldsSound : Description → Bool
 unfolding sizesSound jobSite givenWater within all
 fieldsSound d =
-    sizesSound (jobSite d) (givenWater d) && within clockLimits d.end && within budgetLimits d.budget &&
-    (eqb d.start 0 || all (λ w. eqb w 0) (givenWater d))
+    sizesSound (jobSite d) (givenWater d) && within clockLimits d.header.end && within budgetLimits d.header.budget &&
+    (eqb d.header.start 0 || all (λ w. eqb w 0) (givenWater d))
 
 -- the length of a job with so many elements and points
 unfoldable pub jobLength : Description → ℕ
 jobLength d =
-    headerLength + pairLength * (d.elements + d .«compressibility_points» + d .«conductivity_points» + d .«table_points»)
+    headerLength + pairLength * (d.header.elements + d .header .«compressibility_points» + d .header .«conductivity_points» + d .header .«table_points»)
 
 -- cause 3, of a description: bytes 5 to 13 (it has no bytes 14 and 15)
 unfoldable pub headerKept : Description → Bool
 unfolding headerSound
 headerKept d =
-    headerSound d.top d.bottom d.elements (d .«compressibility_points») (d .«conductivity_points») (d .«table_points») d.start
-    d.gravity
+    headerSound d.header.top d.header.bottom d.header.elements (d .header .«compressibility_points») (d .header .«conductivity_points») (d .header .«table_points») d.header.start
+    d.header.gravity
 
 -- the causes 1 to 8 of a job, in their order
 unfoldable pub jobCauses : List ℕ → List Trial

@@ -38,5 +38,5 @@ key job buffer =
     let d = described job in
     elim (refusalOf (opened .answer)) [
       | some cause ↦ withheld cause buffer
-      | none ↦ runToResult (opened .after) (d .end) (d .budget) buffer
+      | none ↦ runToResult (opened .after) (d .header .end) (d .header .budget) buffer
     ]

@@ -9,12 +9,11 @@ use Rattle.rules.specs.Quantities.{head, pressure}
 use Rattle.rules.specs.Start.{startWater, openingLoad, openingState}
 use Rattle.rules.specs.Refusals.{firstCause}
 use Rattle.rules.specs.Record.{withState}
-use Rattle.rules.specs.Job.{described, describedRecord, jobSite, givenWater, jobCauses}
+use Rattle.rules.specs.Job.{Description, described, describedRecord, jobSite, givenWater, jobCauses}
 use Rattle.rules.specs.declared.answers.Answer.the-variants.{Done, Refused}
 use Rattle.rules.specs.declared.answers.Answered.{Answered}
 use Rattle.rules.specs.declared.answers.Refusal.{Refusal}
 use Rattle.rules.specs.declared.answers.Refusal.the-variants.{StartOffCurve}
-use Rattle.rules.specs.declared.job.Description.{Description}
 use Rattle.rules.specs.declared.quantities.Face.the-variants.{Closed}
 use Rattle.rules.specs.declared.record.Record.{Record}
 
@@ -58,7 +57,7 @@ refusedOpening cause = record { answer = Refused cause; after = blankRecord }
 -- the water of a description's start
 unfoldable pub descriptionWater : Description → Option (List ℕ)
 unfolding startWater jobSite givenWater openingLoad
-descriptionWater d = startWater (jobSite d) d.start (givenWater d) (openingLoad (jobSite d))
+descriptionWater d = startWater (jobSite d) d.header.start (givenWater d) (openingLoad (jobSite d))
 
 -- what opening answers and leaves: causes 1 to 8, then 9
 unfoldable pub opening : List ℕ → Answered

@@ -29,6 +29,6 @@ programOutput input =
     let job = take inputMost input in
     let returned = key job (zeros (resultSize 128)) in
     elim (eqb (returned .number) 0) [
-      | true ↦ take (resultSize ((described job) .elements)) (returned .buffer)
+      | true ↦ take (resultSize ((described job) .header .elements)) (returned .buffer)
       | false ↦ refusedLine (returned .number)
     ]

@@ -14,8 +14,10 @@ use Rattle.rules.specs.Layer.{Site, State, topPressure, bottomPressure}
 use Rattle.rules.specs.Step.{allOnCurve}
 use Rattle.rules.specs.Load.{tableSound}
 use Rattle.rules.specs.Run.{Event, afterEvents}
+use Rattle.rules.specs.declared.quantities.Clock.{Clock}
 use Rattle.rules.specs.declared.quantities.Face.{Face}
 use Rattle.rules.specs.declared.quantities.Face.the-variants.{Closed, Drained}
+use Rattle.rules.specs.declared.quantities.Head.{Head}
 use Rattle.rules.specs.declared.quantities.Pressure.{Pressure}
 use Rattle.rules.specs.declared.record.Record.{Record}
 
@@ -44,6 +46,37 @@ unfolding withinℤ within closedAtZero all
 sizesSound site water =
     withinℤ levelLimits site.topLevel && withinℤ levelLimits site.bottomLevel && closedAtZero site.bottom site.bottomLevel &&
     all (within solidsLimits) site.solids && all (within waterLimits) water
+
+-- a record by its fields, in their order
+abbrev pub recordOf : (top bottom : Face) (elements compressibilityPoints conductivityPoints tablePoints gravity : ℕ)
+    (topLevel bottomLevel : Head) (solids water compressibilityStress compressibilityVoid conductivityVoid conductivity tableTime
+    tableLoad : List ℕ) (load : Pressure) (clock : Clock) (topOutflow bottomOutflow : ℤ) (startingWater : ℕ) → Record
+recordOf top bottom elements compressibilityPoints conductivityPoints tablePoints gravity topLevel bottomLevel solids water
+    compressibilityStress compressibilityVoid conductivityVoid conductivity tableTime tableLoad load clock topOutflow bottomOutflow
+    startingWater = record {
+      top = top;
+      bottom = bottom;
+      elements = elements;
+      «compressibility_points» = compressibilityPoints;
+      «conductivity_points» = conductivityPoints;
+      «table_points» = tablePoints;
+      gravity = gravity;
+      «top_level» = topLevel;
+      «bottom_level» = bottomLevel;
+      solids = solids;
+      water = water;
+      «compressibility_stress» = compressibilityStress;
+      «compressibility_void» = compressibilityVoid;
+      «conductivity_void» = conductivityVoid;
+      conductivity = conductivity;
+      «table_time» = tableTime;
+      «table_load» = tableLoad;
+      load = load;
+      clock = clock;
+      «top_outflow» = topOutflow;
+      «bottom_outflow» = bottomOutflow;
+      «starting_water» = startingWater;
+    }
 
 -- what a record holds of a job
 unfoldable pub recordSite : Record → Site

@@ -1,5 +1,5 @@
-// What a job's bytes say, once its counts are tested. Array places past a count are 0.
-pub struct Description {
+// The numbers of a job's first 48 bytes.
+pub struct Header {
     pub top: u8,
     pub bottom: u8,
     pub elements: usize,
@@ -12,12 +12,4 @@ pub struct Description {
     pub bottom_level: u64,
     pub end: u64,
     pub budget: u64,
-    pub solids: [u64; 128],
-    pub water: [u64; 128],
-    pub compressibility_stress: [u64; 64],
-    pub compressibility_void: [u64; 64],
-    pub conductivity_void: [u64; 64],
-    pub conductivity: [u64; 64],
-    pub table_time: [u64; 64],
-    pub table_load: [u64; 64],
 }

@@ -29,7 +29,7 @@ use Rattle.rules.specs.Step.{upwardFlows, tooLong, stepped}
 use Rattle.rules.specs.declared.answers.Stop.{Stop}
 use Rattle.rules.specs.declared.quantities.Face.{Face}
 use Rattle.run.specs.Loop.{stateIn}
-use Rattle.run.specs.Passes.{loaded, Runs}
+use Rattle.run.specs.Passes.{loaded, Runs, Ends}
 
 -- the next table time is not before now
 pub next-reaches : (table : List Point) (now otherwise : ℕ) → now ≤ otherwise → now ≤ nextTime table now otherwise
@@ -148,3 +148,6 @@ kept-as e k = rw e k
 
 pub runs-as : {site : Site} {end budget : ℕ} {s₀ : State} {steps : ℕ} {s s′ : State} → s′ ≡ s → Runs site end budget s₀ steps s → Runs site end budget s₀ steps s′
 runs-as e k = rw e k
+
+pub ends-as : {site : Site} {end budget : ℕ} {s₀ : State} {stop : Stop} {steps : ℕ} {s s′ : State} → s′ ≡ s → Ends site end budget s₀ stop steps s → Ends site end budget s₀ stop steps s′
+ends-as e k = rw e k

@@ -53,7 +53,7 @@ cast-result-size : tie.Need-cast-result-size
 cast-result-size c = search needs
 
 elements-are : (c : tie.After-byte) →
-    c .byte .result ≡ (described (c .before .before .before .before .before .before .before .before .args .job .now)) .elements
+    c .byte .result ≡ (described (c .before .before .before .before .before .before .before .before .args .job .now)) .header .elements
 unfolding described
 elements-are c = c .byte .ensures
 
@@ -64,7 +64,7 @@ same-length-2 : tie.Need-same-length-2
 same-length-2 c = search needs
 
 size-is : (c : tie.After-result-size) →
-    c .result-size .result ≡ resultSize ((described (c .before .before .before .before .before .before .before .before .before .args .job .now)) .elements)
+    c .result-size .result ≡ resultSize ((described (c .before .before .before .before .before .before .before .before .before .args .job .now)) .header .elements)
 size-is c = c .result-size .ensures ∙ ap resultSize (elements-are (c .before))
 
 returns-2 : tie.Need-returns-2

@@ -1,105 +1,146 @@
-use native.Mathlib.Omega.{arith}
 use Prim.Native.Nat.{ℕ}
-use denote.Enum.Declared.{tagOf}
-use mathlib.Core.Logic.{_⊎_, ⊎-elim}
-use mathlib.Core.Path.{_≡_, sym, ap, _∙_}
+use lib.IntN.{pos}
 use mathlib.Core.List.{List}
-use Rattle.key.specs.KeyLaws.{opening-done, key-refused, header-whole, end-and-budget, can-run, key-run}
+use mathlib.Core.Path.{_≡_, refl, sym, ap, _∙_}
+use mir.Syntax.{w64}
+use mir.Val.{toZ, ofZ}
+use Rattle.key.specs.KeyLaws.{key-refused, can-run, key-run}
+use Rattle.numbers.specs.Arrays.{zeros}
+use Rattle.numbers.specs.Signed.{readBack}
+use Rattle.opening.specs.Accepted.{header-whole, elements-kept, levels-kept, load-kept, water-kept, water-long, record-left}
+use Rattle.opening.specs.Lent.{Leaves, answerOf}
 use Rattle.result.specs.ResultLaws.{number-is, buffer-is}
-use Rattle.rules.proofs.answers.Answer.{the-type}
 use Rattle.rules.specs.Job.{described}
 use Rattle.rules.specs.Opening.{opening}
-use Rattle.rules.specs.declared.answers.Answer.{Answer}
-use Rattle.rules.specs.declared.answers.Answer.the-variants.{Done, Refused}
-use Rattle.rules.specs.declared.answers.Answered.{Answered}
-use Rattle.rules.specs.declared.answers.Refusal.{Refusal}
+use Rattle.rules.specs.Quantities.{head, pressure}
+use Rattle.rules.specs.Record.{recordOf}
+use Rattle.rules.specs.declared.answers.Answer.the-variants.{Done}
+use Rattle.rules.specs.declared.job.Header.{Header}
+use Rattle.rules.specs.declared.record.Record.{Record}
 use borrow.Author.Needs.{needs}
 use Rattle.key.proofs.consolidation_key.Statement.{statement}
 use Rattle.key.proofs.consolidation_key.Tie as tie
 
-open-requires : tie.Need-open-requires
-open-requires c κs = search needs
+open-into-requires : tie.Need-open-into-requires
+unfolding zeros
+open-into-requires c κs = record {
+  solids-blank = refl;
+  water-blank = refl;
+  compressibility-stress-blank = refl;
+  compressibility-void-blank = refl;
+  conductivity-void-blank = refl;
+  conductivity-blank = refl;
+  table-time-blank = refl;
+  table-load-blank = refl;
+}
 
-enum-known-answer : tie.Need-enum-known-answer
-enum-known-answer c = search needs
+enum-known-checked : tie.Need-enum-known-checked
+enum-known-checked c = search needs
 
 withheld-requires : tie.Need-withheld-requires
 withheld-requires c κs = search needs
 
-returns-refused : tie.Need-returns
-returns-refused c =
+returns : tie.Need-returns
+unfolding answerOf
+returns c =
     let k = c .before .before in
-    let o = k .before .before .before in
-    let s = o .before .before .before in
-    let (number, buffer) = key-refused (s .args .job .now) (s .args .result .now) _ (ap (λ (a : Answered). a .answer) (sym (o .«open» .ensures)) ∙ k .answer .given .1) in
+    let o = k .before .before in
+    let s = o .before .before .before .before .before .before .before .before .before .before .before in
+    let (number, buffer) = key-refused (s .args .job .now) (s .args .result .now) _ (o .open-into .ensures .0 ∙ ap answerOf (k .checked .given .1)) in
     (c .withheld .ensures ∙ number, buffer)
+
+enum-told : tie.Need-enum-told
+enum-told c = search needs
 
 -- ---- a job that is not refused
 
-abbrev opened : tie.At-match-keys2 → tie.After-open
-opened c = c .before .before
+module _ (c : tie.After-enum-told) where
+  abbrev o : tie.After-open-into
+  o = c .before .before
 
--- the bytes that were opened
-abbrev bytes-of : tie.After-open → List ℕ
-bytes-of o = o .before .before .before .args .job .now
+  abbrev s : tie.Start
+  s = o .before .before .before .before .before .before .before .before .before .before .before
 
--- an answer of either other kind is no refusal
-not-refused : (answer : Answer) (cause : Refusal) → answer ≡ Refused cause → (tagOf the-type answer ≡ 0) ⊎ (tagOf the-type answer ≡ 1) → ⊥
-not-refused answer cause e k = ⊎-elim (λ z. omega arith) (λ z. omega arith) (rw e at k)
+  abbrev job : List ℕ
+  job = s .args .job .now
 
--- opening is done
-done : (c : tie.At-match-keys2) → (opening (bytes-of (opened c))) .answer ≡ Done
-done c =
-    opening-done _
-    (λ cause e. not-refused _ cause (ap (λ (a : Answered). a .answer) (opened c .«open» .ensures) ∙ e) (c .match .keys2))
+  done : (opening job) .answer ≡ Done
+  unfolding answerOf
+  done = o .open-into .ensures .0 ∙ ap answerOf (c .enum-told .given .1)
 
-end-requires : tie.Need-field-requires
-end-requires c κs = let whole = header-whole _ (done c) in (omega arith, omega arith)
+  leaves : Leaves job (o .open-into .last .1 .0) (o .open-into .last .1 .1 .0) (o .open-into .last .1 .1 .1 .0) (o .open-into .last .1 .1 .1 .1 .0) (o .open-into .last .1 .1 .1 .1 .1 .0) (o .open-into .last .1 .1 .1 .1 .1 .1 .0) (o .open-into .last .1 .1 .1 .1 .1 .1 .1 .0) (o .open-into .last .1 .1 .1 .1 .1 .1 .1 .1 .0)
+  leaves = o .open-into .ensures .1 (c .enum-told .given .1)
 
-budget-requires : tie.Need-field-requires-2
-budget-requires c κs = let whole = header-whole _ (done (c .before)) in (omega arith, omega arith)
+read-header-requires : tie.Need-read-header-requires
+read-header-requires c κs = header-whole (job c) (done c)
 
--- end and budget as described
-abbrev matched : tie.After-field2 → tie.At-match-keys2
-matched f = f .before .before
+opened-numbers-requires : tie.Need-opened-numbers-requires
+opened-numbers-requires c κs =
+    let h = c .before .before in
+    let t = h .before in
+    rw (h .read-header .ensures) (levels-kept _ _ _ _ _ _ _ _ _ (done t) (leaves t), (load-kept _ _ _ _ _ _ _ _ _ (done t) (leaves t), (elements-kept _ _ _ _ _ _ _ _ _ (done t) (leaves t), water-kept _ _ _ _ _ _ _ _ _ (done t) (leaves t))))
 
-end-is : (f : tie.After-field2) → f .before .field .result ≡ (described (bytes-of (opened (matched f)))) .end
-unfolding described
-end-is f = f .before .field .ensures
+-- the record of the job is lent by its fields
+module _ (c : tie.After-struct-told3) where
+  abbrev n : tie.After-opened-numbers
+  n = c .before .before .before .before .before .before .before .before .before .before .before
 
-budget-is : (f : tie.After-field2) → f .field2 .result ≡ (described (bytes-of (opened (matched f)))) .budget
-unfolding described
-budget-is f = f .field2 .ensures
+  abbrev h : tie.After-read-header
+  h = n .before .before .before
+
+  abbrev t : tie.After-enum-told
+  t = h .before
+
+  end-is : h .read-header .result .end ≡ (described (job t)) .header .end
+  end-is = ap (λ (x : Header). x .end) (h .read-header .ensures)
+
+  budget-is : h .read-header .result .budget ≡ (described (job t)) .header .budget
+  budget-is = ap (λ (x : Header). x .budget) (h .read-header .ensures)
+
+  abbrev lent : Record
+  lent =
+      let x = h .read-header .result in
+      let v = n .opened-numbers .result in
+      recordOf (v .top) (v .bottom) (x .elements) (x .«compressibility_points») (x .«conductivity_points») (x .«table_points») (x .gravity)
+      (head (toZ w64 (ofZ w64 (v .«top_level»)))) (head (toZ w64 (ofZ w64 (v .«bottom_level»)))) (o t .open-into .last .1 .0) (o t .open-into .last .1 .1 .0) (o t .open-into .last .1 .1 .1 .0) (o t .open-into .last .1 .1 .1 .1 .0) (o t .open-into .last .1 .1 .1 .1 .1 .0) (o t .open-into .last .1 .1 .1 .1 .1 .1 .0) (o t .open-into .last .1 .1 .1 .1 .1 .1 .1 .0) (o t .open-into .last .1 .1 .1 .1 .1 .1 .1 .1 .0)
+      (pressure (toZ w64 (ofZ w64 (v .load)))) (record { 0 = 0 }) (pos 0) (pos 0) (v .«starting_water»)
+
+  lent-is : lent ≡ (opening (job t)) .after
+  lent-is =
+      let numbers = n .opened-numbers .ensures in
+      let top-level = readBack {z = n .opened-numbers .result .«top_level»} (record { sfits = c .before .before .before .before .before .before .before .before .before .before .struct-told .given .1 .1 .0 .1 }) in
+      let bottom-level = readBack {z = n .opened-numbers .result .«bottom_level»} (record { sfits = c .before .before .before .before .before .before .before .before .before .struct-told2 .given .1 .1 .1 .0 .1 }) in
+      let load = readBack {z = n .opened-numbers .result .load} (record { sfits = c .struct-told3 .given .1 .1 .1 .1 .0 .1 }) in
+      record-left _ _ _ _ _ _ _ _ _ (done t) (leaves t) (h .read-header .result) (h .read-header .ensures) _ _ _ _ _ _ (numbers .0 .0) (numbers .0 .1)
+      (top-level ∙ numbers .1 .0 .0) (bottom-level ∙ numbers .1 .0 .1) (load ∙ numbers .1 .1 .0) (numbers .1 .1 .1)
 
 run-to-result-requires : tie.Need-run-to-result-requires
 run-to-result-requires c κs =
     let f = c .before in
-    let k = matched f in
-    let (short, few) = end-and-budget _ (done k) in
-    can-run _ (done k) _ (opened k .«open» .ensures) _ _ (rw (end-is f) short) (rw (budget-is f) few)
+    let (is, limits) = can-run (job (t f)) (done (t f)) _ (lent-is f) _ _ (end-is f) (budget-is f) in
+    (is, (limits, water-long _ _ _ _ _ _ _ _ _ (done (t f)) (leaves (t f))))
 
 same-length : tie.Need-same-length
 same-length c = search needs
 
-returns-run : tie.Need-returns-2
-returns-run c =
+returns-2 : tie.Need-returns-2
+returns-2 c =
     let r = c .before .before in
     let f = r .before .before in
-    let k = matched f in
-    let s = opened k .before .before .before in
-    let e = key-run _ (done k) _ (opened k .«open» .ensures) _ _ (end-is f) (budget-is f) (s .args .result .now) in
+    let e = key-run (job (t f)) (done (t f)) _ (lent-is f) _ _ (end-is f) (budget-is f) (s (t f) .args .result .now) in
     (r .run-to-result .ensures .0 ∙ number-is e, r .run-to-result .ensures .1 ∙ buffer-is e)
 
 pub consolidation-key-spec : {M : Type 1} → statement M
 consolidation-key-spec =
     tie.close
     (tie.spec
-    open-requires
-    enum-known-answer
+    open-into-requires
+    enum-known-checked
     withheld-requires
-    returns-refused
-    end-requires
-    budget-requires
+    returns
+    enum-told
+    read-header-requires
+    opened-numbers-requires
     run-to-result-requires
     same-length
-    returns-run)
+    returns-2)

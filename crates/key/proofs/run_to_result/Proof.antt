@@ -1,18 +1,35 @@
-use Prim.Native.Nat.{_≤_}
+use Prim.Native.Nat.{ℕ, _≤_}
 use lib.ListN.{length}
-use mathlib.Core.Path.{_≡_, _∙_}
+use mathlib.Core.Bool.{true}
+use mathlib.Core.List.{List}
+use mathlib.Core.Path.{_≡_, refl, sym, ap, subst, _∙_}
+use mir.Syntax.{w64}
+use mir.Val.{SFits}
 use Rattle.calls.specs.Standing.{counted}
-use Rattle.key.specs.KeyLaws.{no-room, by-run, ran-layer, ran-room, ran-written}
+use Rattle.key.specs.KeyLaws.{no-room, ran-layer, ran-fields, ran-written}
+use Rattle.numbers.specs.Arrays.{overlaid}
+use Rattle.numbers.specs.Signed.{readBack}
+use Rattle.result.specs.Fields.{layerWith, othersOf}
 use Rattle.result.specs.ResultLaws.{number-is, buffer-is}
-use Rattle.rules.specs.Key.{resultOf}
-use Rattle.rules.specs.Result.{withheld, resultSize}
-use Rattle.rules.specs.declared.answers.Answer.the-variants.{Done, Refused}
+use Rattle.rules.specs.Calls.{called}
+use Rattle.rules.specs.Record.{recordOf, withState, isLayer}
+use Rattle.rules.specs.Result.{withheld, resultBytes, resultSize}
+use Rattle.rules.specs.declared.answers.Answer.the-variants.{Ran}
+use Rattle.rules.specs.declared.answers.Answered.{Answered}
+use Rattle.rules.specs.declared.answers.Call.the-variants.{Run}
+use Rattle.rules.specs.declared.record.Record.{Record}
+use Rattle.run.specs.Loop.{stateIn}
+use Rattle.run.specs.declared.Ended.{Ended}
 use borrow.Author.Needs.{needs}
 use Rattle.key.proofs.run_to_result.Statement.{statement}
 use Rattle.key.proofs.run_to_result.Tie as tie
 
+-- the layer that is lent
+abbrev layer : tie.Start → Record
+layer s = recordOf (s .args .top) (s .args .bottom) (s .args .elements) (s .args .compressibility-points) (s .args .conductivity-points) (s .args .table-points) (s .args .gravity) (s .args .top-level) (s .args .bottom-level) (s .args .solids .now) (s .args .water .now) (s .args .compressibility-stress .now) (s .args .compressibility-void .now) (s .args .conductivity-void .now) (s .args .conductivity .now) (s .args .table-time .now) (s .args .table-load .now) (s .args .load) (s .args .clock) (s .args .top-outflow) (s .args .bottom-outflow) (s .args .starting-water)
+
 result-size-requires : tie.Need-result-size-requires
-result-size-requires c κs = counted (c .before .args .layer) (c .before .pre .0) .1
+result-size-requires c κs = counted (layer (c .before)) (c .before .pre .0) .1
 
 withheld-requires : tie.Need-withheld-requires
 withheld-requires c κs = search needs
@@ -22,66 +39,86 @@ unfolding withheld
 returns c =
     let s = c .before .before .before .before in
     let short = rw (c .before .before .result-size .ensures) at (c .before .if1 .taken) in
-    let e = no-room (s .args .layer) (s .args .end) (s .args .budget) (s .args .out .now) (s .pre .0) short in
+    let e = no-room (layer s) (s .args .end) (s .args .budget) (s .args .out .now) (s .pre .0) short in
     (c .withheld .ensures ∙ number-is e, buffer-is e)
 
-run-layer-requires : tie.Need-run-layer-requires
-run-layer-requires c κs = search needs
-
--- there is room for the result
-room : (c : tie.After-run-layer) →
+run-fields-requires : tie.Need-run-fields-requires
+run-fields-requires c κs =
     let s = c .before .before .before .before in
-    resultSize (s .args .layer .elements) ≤ length (s .args .out .now)
-room c = rw (c .before .before .result-size .ensures) at (c .before .if1 .left)
+    simp (readBack (s .fits .top-outflow), readBack (s .fits .bottom-outflow)) (s .pre)
 
-enum-told : tie.Need-enum-told
-enum-told c = search needs
+-- ---- the layer after the run
 
-enum-known-answer : tie.Need-enum-known-answer
-enum-known-answer c = search needs
+module _ (f : tie.After-run-fields) where
+  abbrev s : tie.Start
+  s = f .before .before .before .before .before
 
-write-layer-requires : tie.Need-write-layer-requires
-write-layer-requires c κs =
-    let f = c .before .before .before .before .before in
-    let s = f .before .before .before .before in (
-      ran-layer (s .args .layer) (s .args .end) (s .args .budget) (s .args .out .now) (s .pre .0) (room f) (f .run-layer .result) (f .run-layer .ensures),
-      ran-room (s .args .layer) (s .args .end) (s .args .budget) (s .args .out .now) (s .pre .0) (room f) (f .run-layer .result) (f .run-layer .ensures),
-    )
+  abbrev out : List ℕ
+  out = s .args .out .now
 
-enum-known-answer-2 : tie.Need-enum-known-answer-2
-enum-known-answer-2 c = search needs
+  abbrev ran : Ended
+  ran = f .run-fields .result
 
-withheld-requires-2 : tie.Need-withheld-requires-2
-withheld-requires-2 c κs = search needs
+  abbrev water : List ℕ
+  water = f .run-fields .last .1 .1 .1 .1 .1 .1 .1 .1 .1 .1 .0
 
-returns-2 : tie.Need-returns-2
-unfolding resultOf
-returns-2 c =
-    let f = c .before .before .before in
-    let s = f .before .before .before .before in
-    let e = by-run (s .args .layer) (s .args .end) (s .args .budget) (s .args .out .now) (s .pre .0) (room f) (f .run-layer .result) (f .run-layer .ensures) Done (c .enum-told .given .1) in
-    (number-is e, buffer-is e)
+  abbrev after : Record
+  after = withState (layer s) (stateIn (s .args .elements) water (ran .load) (ran .clock) (ran .«top_outflow») (ran .«bottom_outflow»))
+
+  -- there is room for its result
+  room : resultSize (s .args .elements) ≤ length out
+  room = rw (f .before .before .before .result-size .ensures) at (f .before .before .if1 .left)
+
+  gives : called (layer s) (Run (s .args .end) (s .args .budget)) ≡ record { answer = Ran (ran .stop) (ran .steps); after = after }
+  gives = simp (readBack (s .fits .top-outflow), readBack (s .fits .bottom-outflow)) at (f .run-fields .ensures .0)
+
+  -- by its fields
+  abbrev shown : Record
+  shown = layerWith (s .args .elements) (s .args .compressibility-points) (s .args .gravity) (s .args .top-level) (s .args .solids .now) water
+      (s .args .compressibility-stress .now) (s .args .compressibility-void .now) (ran .load) (ran .clock) (ran .«top_outflow»)
+      (ran .«bottom_outflow») (s .args .starting-water) (othersOf (layer s))
+
+  shown-is : shown ≡ after
+  shown-is = ran-fields (layer s) water (ran .load) (ran .clock) (ran .«top_outflow») (ran .«bottom_outflow») (f .run-fields .ensures .1)
+
+  shown-layer : isLayer shown ≡ true
+  shown-layer =
+      subst (λ (r : Record). isLayer r ≡ true) (sym shown-is)
+      (ran-layer (layer s) (s .args .end) (s .args .budget) out (s .pre .0) room (record { answer = Ran (ran .stop) (ran .steps); after = after }) (sym gives))
+
+-- its numbers fit
+module _ (c : tie.After-struct-told3) where
+  abbrev f : tie.After-run-fields
+  f = c .before .before .before .before .before
+
+  load-fits : SFits w64 (ran f .load)
+  load-fits = record { sfits = c .before .before .struct-told .given .1 .1 .0 .1 }
+
+  top-fits : SFits w64 (ran f .«top_outflow»)
+  top-fits = record { sfits = c .before .struct-told2 .given .1 .1 .1 .1 .0 .1 }
+
+  bottom-fits : SFits w64 (ran f .«bottom_outflow»)
+  bottom-fits = record { sfits = c .struct-told3 .given .1 .1 .1 .1 .1 .0 .1 }
+
+write-fields-requires : tie.Need-write-fields-requires
+write-fields-requires c κs =
+    simp (readBack (load-fits c), readBack (top-fits c), readBack (bottom-fits c)) (record { others = othersOf (layer (s (f c))); is-layer = shown-layer (f c) }, room (f c))
 
 same-length : tie.Need-same-length
 same-length c = search needs
 
-returns-3 : tie.Need-returns-3
-returns-3 c =
+returns-2 : tie.Need-returns-2
+returns-2 c =
     let w = c .before .before in
-    let k = w .before .before .before in
-    let f = k .before .before .before in
-    let s = f .before .before .before .before in
-    let e = ran-written (s .args .layer) (s .args .end) (s .args .budget) (s .args .out .now) (s .pre .0) (room f) (f .run-layer .result) (f .run-layer .ensures) _ _ (k .answer .given .1) in
-    (number-is e, w .write-layer .ensures ∙ buffer-is e)
-
-returns-4 : tie.Need-returns-4
-unfolding resultOf withheld
-returns-4 c =
-    let k = c .before .before in
-    let f = k .before .before .before in
-    let s = f .before .before .before .before in
-    let e = by-run (s .args .layer) (s .args .end) (s .args .budget) (s .args .out .now) (s .pre .0) (room f) (f .run-layer .result) (f .run-layer .ensures) (Refused _) (k .answer2 .given .1) in
-    (c .withheld2 .ensures ∙ number-is e, buffer-is e)
+    let t = w .before in
+    let g = f t in
+    let r = s g in
+    let e = ran-written (layer r) (r .args .end) (r .args .budget) (out g) (r .pre .0) (room g) (record { answer = Ran (ran g .stop) (ran g .steps); after = after g })
+    (sym (gives g)) (ran g .stop) (ran g .steps) refl in (
+      number-is e,
+      (simp (readBack (load-fits t), readBack (top-fits t), readBack (bottom-fits t)) at (w .write-fields .ensures)) (othersOf (layer r)) ∙
+          ap (λ (x : Record). overlaid (resultBytes x (ran g .stop) (ran g .steps)) (out g)) (shown-is g) ∙ buffer-is e,
+    )
 
 pub run-to-result-spec : {M : Type 1} → statement M
 run-to-result-spec =
@@ -90,13 +127,7 @@ run-to-result-spec =
     result-size-requires
     withheld-requires
     returns
-    run-layer-requires
-    enum-told
-    enum-known-answer
-    write-layer-requires
-    enum-known-answer-2
-    withheld-requires-2
-    returns-2
+    run-fields-requires
+    write-fields-requires
     same-length
-    returns-3
-    returns-4)
+    returns-2)

@@ -5,28 +5,32 @@ use mathlib.Core.Path.{_≡_, refl, sym, _∙_}
 use Rattle.job.specs.SoundHeader.{SoundHeader}
 use Rattle.opening.proofs.Checking.{chosen, answer-by}
 use Rattle.opening.proofs.FieldLaws.{kept-header}
+use Rattle.opening.specs.Lent.{descriptionOf}
 use Rattle.rules.specs.Curve.{compressibilitySound, conductivitySound}
-use Rattle.rules.specs.Job.{fieldsSound, jobSite, describedRecord}
+use Rattle.rules.specs.Job.{Description, fieldsSound, jobSite, describedRecord}
 use Rattle.rules.specs.Load.{tableSound}
 use Rattle.rules.specs.Record.{recordSite}
-use Rattle.rules.specs.declared.job.Description.{Description}
 use Rattle.opening.proofs.causes.described_cause.Statement.{statement}
 use Rattle.opening.proofs.causes.described_cause.Tie as tie
 
 module _ (c : tie.Start) where
+  -- the description that is lent
   abbrev d : Description
-  d = c .args .t1
+  d = descriptionOf (c .args .header) (c .args .solids .now) (c .args .water .now) (c .args .compressibility-stress .now)
+      (c .args .compressibility-void .now) (c .args .conductivity-void .now) (c .args .conductivity .now) (c .args .table-time .now)
+      (c .args .table-load .now)
 
-  kept : SoundHeader d.top d.bottom d.elements (d .«compressibility_points») (d .«conductivity_points») (d .«table_points») d.start d.gravity
+  kept : SoundHeader d.header.top d.header.bottom d.header.elements (d .header .«compressibility_points») (d .header .«conductivity_points»)
+      (d .header .«table_points») d.header.start d.header.gravity
   kept = kept-header d (c .pre)
 
 fields-sound-requires : tie.Need-fields-sound-requires
-fields-sound-requires c κs = search needs
+fields-sound-requires c κs = kept c .elements-kept .most
 
 returns : tie.Need-returns
 unfolding chosen
 returns c =
-    let f = c .before in sym (answer-by (d (f .before)) (sym (f .fields-sound .ensures) ∙ not-true _ (c .if1 .taken)) refl refl refl)
+    let f = c .before in sym (answer-by (d (f .before)) (sym (f .fields-sound .ensures _ _ _ _ _ _) ∙ not-true _ (c .if1 .taken)) refl refl refl)
 
 -- what each test told
 module _ (c : tie.Else1) where
@@ -34,14 +38,14 @@ module _ (c : tie.Else1) where
   s₁ = c .before .before
 
   fields-true : fieldsSound (d s₁) ≡ true
-  fields-true = sym (c .before .fields-sound .ensures) ∙ not-false _ (c .if1 .left)
+  fields-true = sym (c .before .fields-sound .ensures _ _ _ _ _ _) ∙ not-false _ (c .if1 .left)
 
 compressibility-sound-requires : tie.Need-compressibility-sound-requires
-compressibility-sound-requires c κs = kept (s₁ (c .before .before .before)) .compressibility-kept .most
+compressibility-sound-requires c κs = kept (s₁ c) .compressibility-kept .most
 
 module _ (c : tie.After-compressibility-sound) where
   abbrev e₁ : tie.Else1
-  e₁ = c .before .before .before .before
+  e₁ = c .before
 
   compressibility-is : c .compressibility-sound .result ≡ compressibilitySound ((jobSite (d (s₁ e₁))) .compressibility)
   unfolding jobSite describedRecord recordSite
@@ -66,12 +70,12 @@ module _ (c : tie.Else2) where
 
 conductivity-sound-requires : tie.Need-conductivity-sound-requires
 conductivity-sound-requires c κs =
-    let k = kept (s₂ (c .before .before .before .before .before)) in
+    let k = kept (s₂ c) in
     ((k .conductivity-kept .least, k .conductivity-kept .most), k .compressibility-kept .most)
 
 module _ (c : tie.After-conductivity-sound) where
   abbrev e₃ : tie.Else2
-  e₃ = c .before .before .before .before .before .before
+  e₃ = c .before
 
   conductivity-is :
       c .conductivity-sound .result ≡ conductivitySound ((jobSite (d (s₂ e₃))) .conductivity) ((jobSite (d (s₂ e₃))) .compressibility)
@@ -96,11 +100,11 @@ module _ (c : tie.Else3) where
   conductivity-true = sym (conductivity-is (c .before)) ∙ not-false _ (c .if3 .left)
 
 table-sound-requires : tie.Need-table-sound-requires
-table-sound-requires c κs = kept (s₃ (c .before .before .before)) .table-kept .most
+table-sound-requires c κs = kept (s₃ c) .table-kept .most
 
 module _ (c : tie.After-table-sound) where
   abbrev e₅ : tie.Else3
-  e₅ = c .before .before .before .before
+  e₅ = c .before
 
   table-is : c .table-sound .result ≡ tableSound ((jobSite (d (s₃ e₅))) .loadTable)
   unfolding jobSite describedRecord recordSite

@@ -1,11 +1,7 @@
-use Prim.Native.Nat.{_≤_}
 use borrow.Author.Needs.{needs}
-use Rattle.opening.proofs.FieldLaws.{fields-by, kept-header}
+use Rattle.opening.proofs.FieldLaws.{fields-by}
 use Rattle.opening.proofs.fields.fields_sound.Statement.{statement}
 use Rattle.opening.proofs.fields.fields_sound.Tie as tie
-
-few : (c : tie.Start) → c .args .t1 .elements ≤ 128
-few c = kept-header (c .args .t1) (c .pre) .elements-kept .most
 
 holds-requires : tie.Need-holds-requires
 holds-requires c κs = search needs
@@ -14,10 +10,10 @@ holds-requires-2 : tie.Need-holds-requires-2
 holds-requires-2 c κs = search needs
 
 all-within-requires : tie.Need-all-within-requires
-all-within-requires c κs = few (c .before .before .before .before)
+all-within-requires c κs = search needs
 
 all-within-requires-2 : tie.Need-all-within-requires-2
-all-within-requires-2 c κs = few (c .before .before .before .before .before .before .before)
+all-within-requires-2 c κs = search needs
 
 holds-requires-3 : tie.Need-holds-requires-3
 holds-requires-3 c κs = search needs
@@ -26,14 +22,14 @@ holds-requires-4 : tie.Need-holds-requires-4
 holds-requires-4 c κs = search needs
 
 all-within-requires-3 : tie.Need-all-within-requires-3
-all-within-requires-3 c κs = few (c .before .before .before .before .before .before .before .before .before .before .before .before)
+all-within-requires-3 c κs = search needs
 
 returns : tie.Need-returns
-returns c =
-    let budgeted = c .before .before .before in
+returns c compressibilityStress compressibilityVoid conductivityVoid conductivity tableTime tableLoad =
+    let budgeted = c .before in
     let wet = budgeted .before .before in
-    let solid = wet .before .before .before in
-    let level = solid .before .before .before in
+    let solid = wet .before in
+    let level = solid .before in
     rw (
       fields-by _,
       level .before .holds .ensures,
