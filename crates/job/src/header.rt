@@ -45,23 +45,6 @@ pub fn header_sound(
         & Gravity::holds(gravity)
 }
 
-// Whether those of a job do.
-pub fn header_kept(job: &[u8]) -> bool
-    requires { ⌜ headerLength ≤ length (now job) ⌝ }
-    ensures { λ r. ⌜ r ≡ headerKept (described (now (job .entry))) ⌝ }
-{
-    header_sound(
-        fields::byte(job, 5),
-        fields::byte(job, 6),
-        fields::byte(job, 7) as usize,
-        fields::byte(job, 8) as usize,
-        fields::byte(job, 9) as usize,
-        fields::byte(job, 10) as usize,
-        fields::byte(job, 11),
-        fields::field(job, 2, 12),
-    )
-}
-
 // The numbers of a job's header.
 pub fn read_header(job: &[u8]) -> Header
     requires { ⌜ headerLength ≤ length (now job) ⌝ }
@@ -81,6 +64,24 @@ pub fn read_header(job: &[u8]) -> Header
         end: fields::field(job, 8, 32),
         budget: fields::field(job, 8, 40),
     }
+}
+
+// Whether those of a job keep their limits.
+pub fn header_kept(job: &[u8]) -> bool
+    requires { ⌜ headerLength ≤ length (now job) ⌝ }
+    ensures { λ r. ⌜ r ≡ headerKept (described (now (job .entry))) ⌝ }
+{
+    let header = read_header(job);
+    header_sound(
+        header.top,
+        header.bottom,
+        header.elements,
+        header.compressibility_points,
+        header.conductivity_points,
+        header.table_points,
+        header.start,
+        header.gravity,
+    )
 }
 
 // The length that a job's four counts ask for.

@@ -44,3 +44,9 @@ pub record Bounded (curve : List Point) (n : ℕ) (solids low high : List ℕ) :
   pub solid : (j : ℕ) → j < n → 0 < getD solids j 0
   pub lows : (j : ℕ) → j < n → getD low j 0 ≡ lowestWater (getD solids j 0) (lastAbscissa curve)
   pub highs : (j : ℕ) → j < n → getD high j 0 ≡ highestWater (getD solids j 0) (firstAbscissa curve)
+
+-- some curve and some solids have these bounds
+pub record SomeBounds (n : ℕ) (low high : List ℕ) : Type 0 where
+  pub curve : List Point
+  pub solids : List ℕ
+  pub bounded : Bounded curve n solids low high

@@ -5,7 +5,7 @@ use lib.ListN.{getD}
 use mathlib.Core.Bool.{not}
 use mathlib.Core.List.{List}
 use mathlib.Core.Path.{_≡_}
-use Rattle.motion.specs.Moving.{Bounded}
+use Rattle.motion.specs.Moving.{Bounded, SomeBounds}
 use Rattle.numbers.specs.Arrays.{firstPlaces, overlaid, filled}
 use Rattle.numbers.specs.Lists.{firstOr, lastOr, greatest}
 use Rattle.rules.specs.Curve.{Point, points, steepness}
@@ -47,6 +47,10 @@ pub record Worked (n : ℕ) (curve : List Point) (solids sensitivity low high : 
   pub bounded : Bounded curve n solids low high
   pub slope-is : slope ≡ steepness curve
 
+pub some-bounds : {n slope : ℕ} {curve : List Point} {solids sensitivity low high : List ℕ} → Worked n curve solids sensitivity low high slope →
+    SomeBounds n low high
+some-bounds {curve = curve} {solids = solids} w = record { curve = curve; solids = solids; bounded = w .bounded }
+
 -- a site and a state as arrays hold them
 pub record Shows (site : Site) (s : State) (n : ℕ) (top bottom : Face) (load : ℤ) (burden solids water : List ℕ) (m : ℕ)
     (void stress : List ℕ) (k : ℕ) (conductivityVoid conductivity : List ℕ) : Type 0 where
@@ -58,3 +62,10 @@ pub record Shows (site : Site) (s : State) (n : ℕ) (top bottom : Face) (load :
   pub burdens-are : (j : ℕ) → j < n → getD (burdens site.gravity site.solids) j 0 ≡ getD burden j 0
   pub load-is : s.load ≡ load
   pub water-is : s.water ≡ firstPlaces n water
+
+-- some site and some state are held so
+pub record SomeShown (n : ℕ) (top bottom : Face) (load : ℤ) (burden solids water : List ℕ) (m : ℕ) (void stress : List ℕ) (k : ℕ)
+    (conductivityVoid conductivity : List ℕ) : Type 0 where
+  pub site : Site
+  pub state : State
+  pub shows : Shows site state n top bottom load burden solids water m void stress k conductivityVoid conductivity

@@ -10,8 +10,8 @@ ghost use Rattle.laws.specs.Outflow.{HeldWithin};
 ghost use Rattle.laws.specs.Rising.{lastAbscissa};
 ghost use Rattle.layer.specs.Soil.{Soil, OnSoil, excessAt, resistanceAt};
 ghost use Rattle.layer.specs.Weights.{burdenAt};
-ghost use Rattle.motion.specs.Moving.{flowsIn, movedBy, waterAfter, staysOn, Bounded};
-ghost use Rattle.motion.specs.Turning.{longestUpTo, turnedBy, waterTurned, flowsTurned, Worked, Shows};
+ghost use Rattle.motion.specs.Moving.{flowsIn, movedBy, waterAfter, staysOn, Bounded, SomeBounds};
+ghost use Rattle.motion.specs.Turning.{longestUpTo, turnedBy, waterTurned, flowsTurned, Worked, Shows, SomeShown};
 ghost use Rattle.numbers.specs.Arrays.{filled};
 ghost use Rattle.rules.proofs.Falling.{firstAbscissa};
 ghost use Rattle.rules.specs.Curve.{Point, points, compressibilitySound, steepness};
@@ -51,6 +51,7 @@ pub fn advance<'a>(
     requires { ⌜ Readable n (now excess) (now resistance) ⌝ }
     requires { ⌜ ((j : ℕ) → j < n → (getD (now low) j 0 ≤ waterLimits .most) × (getD (now high) j 0 ≤ waterLimits .most) × (getD (now water) j 0 ≤ waterLimits .most)) ⌝ }
     requires { ⌜ (length (now above) ≡ 128) × (length (now water) ≡ 128) ⌝ }
+    requires { ⌜ SomeBounds n (now low) (now high) ⌝ }
     ensures { λ r. ⌜ ((curve : List Point) (solids : List ℕ) → Bounded curve n solids (now (low .entry)) (now (high .entry)) → r ≡ movedBy (staysOn curve n solids (flowsIn top bottom t n (now (excess .entry)) (now (resistance .entry))) (now (water .entry))) (flowsIn top bottom t n (now (excess .entry)) (now (resistance .entry)))) ⌝ }
     ensures { λ _. ⌜ ((curve : List Point) (solids : List ℕ) → Bounded curve n solids (now (low .entry)) (now (high .entry)) → now (water .exit) ≡ waterAfter (staysOn curve n solids (flowsIn top bottom t n (now (excess .entry)) (now (resistance .entry))) (now (water .entry))) (flowsIn top bottom t n (now (excess .entry)) (now (resistance .entry))) n (now (water .entry))) ⌝ }
     ensures { λ _. ⌜ now (above .exit) ≡ filled (now (above .entry)) n (flowAbove top t n (now (excess .entry)) (now (resistance .entry))) ⌝ }
@@ -132,6 +133,7 @@ pub fn turn<'a>(
     requires { ⌜ ((j : ℕ) → j < n → OnSoil m (now void) (now stress) load (getD (now burden) j 0) (getD (now solids) j 0) (getD (now water) j 0)) ⌝ }
     requires { ⌜ Worked n (points m (now void) (now stress)) (now solids) (now sensitivity) (now low) (now high) slope ⌝ }
     requires { ⌜ (length (now excess) ≡ 128) × (length (now resistance) ≡ 128) × (length (now above) ≡ 128) × (length (now water) ≡ 128) ⌝ }
+    requires { ⌜ SomeShown n top bottom load (now burden) (now solids) (now water) m (now void) (now stress) k (now «conductivity_void») (now conductivity) ⌝ }
     ensures { λ r. ⌜ ((site : Site) (s : State) → Shows site s n top bottom load (now (burden .entry)) (now (solids .entry)) (now (water .entry)) m (now (void .entry)) (now (stress .entry)) k (now («conductivity_void» .entry)) (now (conductivity .entry)) → r ≡ turnedBy site s (run.turn site s (longestUpTo site s most))) ⌝ }
     ensures { λ _. ⌜ ((site : Site) (s : State) → Shows site s n top bottom load (now (burden .entry)) (now (solids .entry)) (now (water .entry)) m (now (void .entry)) (now (stress .entry)) k (now («conductivity_void» .entry)) (now (conductivity .entry)) → now (water .exit) ≡ waterTurned site s (run.turn site s (longestUpTo site s most)) (now (water .entry))) ⌝ }
     ensures { λ _. ⌜ ((site : Site) (s : State) → Shows site s n top bottom load (now (burden .entry)) (now (solids .entry)) (now (water .entry)) m (now (void .entry)) (now (stress .entry)) k (now («conductivity_void» .entry)) (now (conductivity .entry)) → now (above .exit) ≡ flowsTurned site s n (longestUpTo site s most) (now (above .entry))) ⌝ }

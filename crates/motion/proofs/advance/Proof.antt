@@ -21,7 +21,7 @@ use Rattle.motion.proofs.advance.Statement.{statement}
 use Rattle.motion.proofs.advance.Tie as tie
 
 all-flows-requires : tie.Need-all-flows-requires
-all-flows-requires c κs = let s = c .before in (s .pre .0, (s .pre .1 .0, (s .pre .1 .1 .0, (s .pre .1 .1 .1 .0, s .pre .1 .1 .1 .1 .1 .0))))
+all-flows-requires c κs = let s = c .before in (s .pre .0, (s .pre .1 .0, (s .pre .1 .1 .0, (s .pre .1 .1 .1 .0, s .pre .1 .1 .1 .1 .1 .0 .0))))
 
 -- the flows as the arrays hold them
 module _ (c : tie.After-all-flows) where
@@ -92,7 +92,7 @@ move-water-requires c κs =
     let s = c .before .before .before .before .before .before .before .before in
     let f = c .before .before .before .before .before .before in
     let on = sym (c .before .before .before .stays-between .ensures) ∙ not-false _ (c .before .before .if1 .left) in
-    (s .pre .0 .1, (moves-now f, (stays-positive (s .args .n) _ (now-above f) (s .args .water .now) (s .args .low .now) (s .args .high .now) on, s .pre .1 .1 .1 .1 .1 .1)))
+    (s .pre .0 .1, (moves-now f, (stays-positive (s .args .n) _ (now-above f) (s .args .water .now) (s .args .low .now) (s .args .high .now) on, s .pre .1 .1 .1 .1 .1 .0 .1)))
 
 sub-last : tie.Need-sub-last
 sub-last c = search needs

@@ -20,7 +20,7 @@ use Rattle.reach.specs.Reach.{Limited, longestWithin}
 use Rattle.rules.specs.Layer.{Site, State}
 use Rattle.rules.specs.Run.{Turn, turn}
 use Rattle.rules.specs.declared.answers.Stop.the-variants.{NoStep, OffCurve}
-use Rattle.motion.specs.Turning.{longestUpTo, turnedBy, waterTurned, flowsTurned, Shows}
+use Rattle.motion.specs.Turning.{longestUpTo, turnedBy, waterTurned, flowsTurned, Shows, some-bounds}
 use Rattle.motion.specs.declared.Turned.the-variants.{Stopped, Stepped}
 use borrow.Author.Needs.{needs}
 use Rattle.motion.proofs.turn.Statement.{statement}
@@ -29,7 +29,7 @@ use Rattle.motion.proofs.turn.Tie as tie
 read-elements-requires : tie.Need-read-elements-requires
 read-elements-requires c κs =
     let s = c .before .before .before .before .before in
-    simp (readBack (s .fits .load)) (s .pre .0 .1, (s .pre .1 .1 .0, (s .pre .1 .1 .1 .0, (s .pre .1 .1 .1 .1 .1 .0, s .pre .1 .1 .1 .1 .1 .1))))
+    simp (readBack (s .fits .load)) (s .pre .0 .1, (s .pre .1 .1 .0, (s .pre .1 .1 .1 .0, (s .pre .1 .1 .1 .1 .1 .0 .0, s .pre .1 .1 .1 .1 .1 .0 .1))))
 
 -- what was read
 module _ (c : tie.After-read-elements) where
@@ -143,7 +143,7 @@ advance-requires : tie.Need-advance-requires
 advance-requires c κs =
     let l = c .before .before .before .before .before in
     let z = s′ l in
-    (z .pre .0, ((z .pre .1 .0 .0, z .pre .1 .0 .1), (short l, (readable-now (f l), (waters l, (z .pre .1 .1 .1 .1 .1 .2, z .pre .1 .1 .1 .1 .1 .3))))))
+    (z .pre .0, ((z .pre .1 .0 .0, z .pre .1 .0 .1), (short l, (readable-now (f l), (waters l, ((z .pre .1 .1 .1 .1 .1 .0 .2, z .pre .1 .1 .1 .1 .1 .0 .3), some-bounds (z .pre .1 .1 .1 .1 .0)))))))
 
 enum-told : tie.Need-enum-told
 enum-told c = search needs

@@ -288,6 +288,7 @@ module _ (c : tie.After-lesser2 Inv-loop μ-loop) where
     worked-now = worked-as (r v) (is v) zs zs zs zs (sensitivity-is (p t₁) v) (low-is (p t₁) v) (high-is (p t₁) v) (slope-is (p t₁) v)
 
 turn-requires : tie.Need-turn-requires Inv-loop μ-loop
+unfolding withLoad
 turn-requires c κs =
     let g = c .before .before .before .before .before .before .before .before .before .before in
     let h = t₁ g in
@@ -300,7 +301,20 @@ turn-requires c κs =
         (facts .top-held, facts .bottom-held, reach-most g),
         (
           soil (r v) (is v),
-          (on-soil-with-as (r v) (is v) zs zs zs zs (read-load g) (water h) (burden-is (p h) v) (load-between g) (on-curve h v), (worked-now g v, (inv .4, inv .5, inv .6, inv .7))),
+          (
+            on-soil-with-as (r v) (is v) zs zs zs zs (read-load g) (water h) (burden-is (p h) v) (load-between g) (on-curve h v),
+            (
+              worked-now g v,
+              (
+                (inv .4, inv .5, inv .6, inv .7),
+                record {
+                  site = site v;
+                  state = next h v;
+                  shows = shows-under (load-is g v) (shows-with-as (r v) (is v) zs zs zs zs (next h v) (water h) (burden-is (p h) v) refl);
+                },
+              ),
+            ),
+          ),
         ),
       ),
     )

@@ -13,6 +13,7 @@ use Rattle.calls.specs.StepLaws.{step-too-long, step-off-curve, step-tak
 use Rattle.element.specs.Elements.{Readable}
 use Rattle.motion.proofs.MovingAt.{moves-on}
 use Rattle.motion.proofs.TurningAt.{excess, resistance, readable, waters-most, limited, slope-range, bounds-most, too-long-is, flows-are, leaves-is, stepped-is, readable-as, limited-as, moved-as, water-as, leaves-off, flows-on}
+use Rattle.motion.specs.Turning.{some-bounds}
 use Rattle.motion.specs.Moving.{flowsIn, movedBy, waterAfter, staysOn, Bounded}
 use Rattle.numbers.specs.Arrays.{firstPlaces, overlaid}
 use Rattle.numbers.specs.Interval.{Within, within-add, within-sub, within-le, within-fits}
@@ -209,7 +210,7 @@ advance-requires : tie.Need-advance-requires
 advance-requires c κs =
     let e = c .before .before .before .before .before .before .before in
     let g = y e in
-    (counted (r g) (is g), ((site-is (r g) (is g) .top-held, site-is (r g) (is g) .bottom-held), (seconds-within g .1, (readable-now g, (waters e, (refl, long e))))))
+    (counted (r g) (is g), ((site-is (r g) (is g) .top-held, site-is (r g) (is g) .bottom-held), (seconds-within g .1, (readable-now g, (waters e, ((refl, long e), some-bounds (worked-as (r g) (is g) zs zs zs zs (sensitivity-is (p g)) (low-is (p g)) (high-is (p g)) (slope-is (p g)))))))))
 
 -- ---- what the step gave
 
