@@ -7,10 +7,11 @@ use lib.ListN.{getD, length}
 use mathlib.Core.Bool.{true, not}
 use mathlib.Core.List.{List}
 use mathlib.Core.Logic.{⊎-elim}
-use mathlib.Core.Path.{_≡_, sym, ap, subst, _∙_}
+use mathlib.Core.Path.{_≡_, refl, sym, ap, subst, _∙_}
 use Rattle.claims.specs.Causes.{neither, none-holds}
 use Rattle.claims.specs.Opened.{opening-either, opened, opened-record}
 use Rattle.claims.specs.Stands.{stands-layer}
+use Rattle.job.specs.Pairs.{Blank}
 use Rattle.laws.specs.Every.{Every}
 use Rattle.numbers.specs.Arrays.{firstPlaces, overlaid, zeros}
 use Rattle.numbers.specs.Filled.{first-length, length-overlaid, length-zeros}
@@ -33,6 +34,19 @@ use Rattle.rules.specs.declared.quantities.Face.{Face}
 use Rattle.rules.specs.declared.record.Record.{Record}
 use Rattle.sound.specs.SiteFacts.{SiteFacts, site-facts}
 use Rattle.sound.specs.StateFacts.{StateFacts, state-facts}
+
+-- arrays of zeros hold nothing yet
+pub blank-arrays : Blank (zeros 128) (zeros 128) (zeros 64) (zeros 64) (zeros 64) (zeros 64) (zeros 64) (zeros 64)
+blank-arrays = record {
+  solids-blank = refl;
+  water-blank = refl;
+  compressibility-stress-blank = refl;
+  compressibility-void-blank = refl;
+  conductivity-void-blank = refl;
+  conductivity-blank = refl;
+  table-time-blank = refl;
+  table-load-blank = refl;
+}
 
 -- an array with nothing but heights in its first places is whole
 pub alone-long : (n : ℕ) (water : List ℕ) → n ≤ 128 → water ≡ overlaid (firstPlaces n water) (zeros 128) → length water ≡ 128
@@ -88,22 +102,29 @@ module _ (job solids water compressibilityStress compressibilityVoid conductivit
   unfolding openedRecord withState describedRecord
   some-times = site .header .table-kept .least
 
-  pub elements-kept : header.elements ≤ 128
+  elements-kept : header.elements ≤ 128
   unfolding openedRecord withState describedRecord
   elements-kept = site .header .elements-kept .most
 
   -- its levels, its load and its water keep their limits
-  pub levels-kept : (header .«top_level» ≤ levelLimits .most) × (header .«bottom_level» ≤ levelLimits .most)
+  levels-kept : (header .«top_level» ≤ levelLimits .most) × (header .«bottom_level» ≤ levelLimits .most)
   unfolding openedRecord withState describedRecord
   levels-kept = let t = site .sizes .top-level .1 in let b = site .sizes .bottom-level .1 in (omega signed, omega signed)
 
-  pub load-kept : getD tableLoad 0 0 ≤ stressLimits .most
+  load-kept : getD tableLoad 0 0 ≤ stressLimits .most
   unfolding openedRecord withState describedRecord openingState
   load-kept = let l = state .load-between .1 in let e = opening-load d some-times in omega signed
 
-  pub water-kept : (j : ℕ) → j < header.elements → getD water j 0 ≤ waterLimits .most
+  water-kept : (j : ℕ) → j < header.elements → getD water j 0 ≤ waterLimits .most
   unfolding openedRecord withState describedRecord openingState
   water-kept j h = subst (λ (w : List ℕ). getD w j 0 ≤ waterLimits .most) (sym (leaves .alone)) (site .sizes .water-most j h)
+
+  -- so what the record holds beside header and arrays can be worked out, from a header read from the job
+  pub numbers-kept : (h : Header) → h ≡ header →
+      ((h .«top_level» ≤ levelLimits .most) × (h .«bottom_level» ≤ levelLimits .most)) ×
+      ((getD tableLoad 0 0 ≤ stressLimits .most) ×
+      ((h.elements ≤ 128) × ((j : ℕ) → j < h.elements → getD water j 0 ≤ waterLimits .most)))
+  numbers-kept h e = rw e (levels-kept, (load-kept, (elements-kept, water-kept)))
 
   pub water-long : length water ≡ 128
   water-long = alone-long header.elements water elements-kept (leaves .alone)

@@ -7,7 +7,7 @@ use mir.Val.{toZ, ofZ}
 use Rattle.key.specs.KeyLaws.{key-refused, can-run, key-run}
 use Rattle.numbers.specs.Arrays.{zeros}
 use Rattle.numbers.specs.Signed.{readBack}
-use Rattle.opening.specs.Accepted.{header-whole, elements-kept, levels-kept, load-kept, water-kept, water-long, record-left}
+use Rattle.opening.specs.Accepted.{blank-arrays, header-whole, numbers-kept, water-long, record-left}
 use Rattle.opening.specs.Lent.{Leaves, answerOf}
 use Rattle.result.specs.ResultLaws.{number-is, buffer-is}
 use Rattle.rules.specs.Job.{described}
@@ -23,16 +23,7 @@ use Rattle.key.proofs.consolidation_key.Tie as tie
 
 open-into-requires : tie.Need-open-into-requires
 unfolding zeros
-open-into-requires c κs = record {
-  solids-blank = refl;
-  water-blank = refl;
-  compressibility-stress-blank = refl;
-  compressibility-void-blank = refl;
-  conductivity-void-blank = refl;
-  conductivity-blank = refl;
-  table-time-blank = refl;
-  table-load-blank = refl;
-}
+open-into-requires c κs = blank-arrays
 
 enum-known-checked : tie.Need-enum-known-checked
 enum-known-checked c = search needs
@@ -78,7 +69,7 @@ opened-numbers-requires : tie.Need-opened-numbers-requires
 opened-numbers-requires c κs =
     let h = c .before .before in
     let t = h .before in
-    rw (h .read-header .ensures) (levels-kept _ _ _ _ _ _ _ _ _ (done t) (leaves t), (load-kept _ _ _ _ _ _ _ _ _ (done t) (leaves t), (elements-kept _ _ _ _ _ _ _ _ _ (done t) (leaves t), water-kept _ _ _ _ _ _ _ _ _ (done t) (leaves t))))
+    numbers-kept _ _ _ _ _ _ _ _ _ (done t) (leaves t) (h .read-header .result) (h .read-header .ensures)
 
 -- the record of the job is lent by its fields
 module _ (c : tie.After-struct-told3) where

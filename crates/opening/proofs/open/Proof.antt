@@ -4,7 +4,7 @@ use mathlib.Core.List.{List}
 use mathlib.Core.Path.{_≡_, refl, sym, ap, _∙_}
 use Rattle.numbers.specs.Arrays.{zeros}
 use Rattle.numbers.specs.Signed.{readBack}
-use Rattle.opening.specs.Accepted.{refused-opening, header-whole, elements-kept, levels-kept, load-kept, water-kept, record-left}
+use Rattle.opening.specs.Accepted.{blank-arrays, refused-opening, header-whole, numbers-kept, record-left}
 use Rattle.opening.specs.Lent.{Leaves, answerOf}
 use Rattle.opening.specs.declared.causes.Checked.the-variants.{Sound}
 use Rattle.rules.specs.Job.{described}
@@ -17,16 +17,7 @@ use Rattle.opening.proofs.open.Tie as tie
 
 open-into-requires : tie.Need-open-into-requires
 unfolding zeros
-open-into-requires c κs = record {
-  solids-blank = refl;
-  water-blank = refl;
-  compressibility-stress-blank = refl;
-  compressibility-void-blank = refl;
-  conductivity-void-blank = refl;
-  conductivity-blank = refl;
-  table-time-blank = refl;
-  table-load-blank = refl;
-}
+open-into-requires c κs = blank-arrays
 
 enum-known-checked : tie.Need-enum-known-checked
 enum-known-checked c = search needs
@@ -67,7 +58,7 @@ opened-numbers-requires : tie.Need-opened-numbers-requires
 opened-numbers-requires c κs =
     let h = c .before .before in
     let t = h .before in
-    rw (h .read-header .ensures) (levels-kept _ _ _ _ _ _ _ _ _ (done t) (leaves t), (load-kept _ _ _ _ _ _ _ _ _ (done t) (leaves t), (elements-kept _ _ _ _ _ _ _ _ _ (done t) (leaves t), water-kept _ _ _ _ _ _ _ _ _ (done t) (leaves t))))
+    numbers-kept _ _ _ _ _ _ _ _ _ (done t) (leaves t) (h .read-header .result) (h .read-header .ensures)
 
 returns-2 : tie.Need-returns-2
 returns-2 c =
