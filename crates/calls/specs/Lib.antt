@@ -1,4 +1,2 @@
--- What a layer gives to the functions that work on its arrays.
-pub mod Standing
-pub mod CallLaws
-pub mod StepLaws
+-- What the contracts of the calls cite beside the rules.
+pub mod Answers

@@ -1,4 +1,4 @@
-// Load and step, on any record.
+// Load and step, on any record; reading a layer without moving it.
 pub mod load;
-pub mod state;
+pub mod reading;
 pub mod step;

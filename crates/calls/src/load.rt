@@ -1,8 +1,9 @@
 // Load: sets a load until a load or a run sets another.
 ghost use mathlib.Core.Path.{_≡_};
-ghost use Rattle.rules.specs.Calls.{called};
+ghost use Rattle.rules.specs.Calls.{called, calledNumbers};
+ghost use Rattle.rules.specs.Outcome.{answerNumbers};
 ghost use Rattle.rules.specs.declared.answers.Call.the-variants.{Load};
-use crate::state;
+use lent::state;
 use rules::answers::Answer;
 use rules::answers::Answered;
 use rules::answers::Refusal;
@@ -10,26 +11,22 @@ use rules::quantities::Pressure;
 use rules::quantities::TestedPressure;
 use rules::record::Record;
 
-pub fn set_load(layer: Record, load: u64) -> Answered
-    ensures { λ r. ⌜ r ≡ called layer (Load load) ⌝ }
+// A load, on any record.
+pub fn set_load(r: Record, load: u64) -> Answered
+    ensures { λ a. ⌜ a ≡ called r (Load load) ⌝ }
+    ensures { λ a. ⌜ answerNumbers (a .answer) ≡ calledNumbers r (Load load) ⌝ }
 {
-    if !sound::record::is_layer(layer) {
-        return state::refused(layer, Refusal::NoLayer);
+    if !sound::record::is_layer(r) {
+        return state::refused(r, Refusal::NoLayer);
     }
+    let layer = r.layer;
     let water = layer.water;
-    let clock = layer.clock;
+    let progress = layer.progress;
     match Pressure::new(load) {
-        TestedPressure::Outside => state::refused(layer, Refusal::LoadOutside),
+        TestedPressure::Outside => state::refused(r, Refusal::LoadOutside),
         TestedPressure::Within(pressure) => Answered {
             answer: Answer::Done,
-            after: state::with_state(
-                layer,
-                water,
-                pressure,
-                clock,
-                layer.top_outflow,
-                layer.bottom_outflow,
-            ),
+            after: state::with_parts(r, water, state::loaded(progress, pressure)),
         },
     }
 }

@@ -1,79 +1,95 @@
 // Step: one step of t seconds. All is read before anything moves.
+ghost use lib.ListN.{length};
 ghost use mathlib.Core.Bool.{true};
 ghost use mathlib.Core.Path.{_≡_};
 ghost use Prim.Native.Nat.{_+_};
-ghost use Rattle.rules.specs.Calls.{called};
+ghost use Rattle.calls.specs.Answers.{stepAnswered};
+ghost use Rattle.rules.specs.Calls.{called, calledNumbers};
+ghost use Rattle.rules.specs.Outcome.{answerNumbers};
 ghost use Rattle.rules.specs.Quantities.{within, stepLimits, clockLimits};
-ghost use Rattle.rules.specs.Record.{isLayer};
+ghost use Rattle.rules.specs.Record.{soilOf, layerOf, recordOf, isLayer};
 ghost use Rattle.rules.specs.declared.answers.Call.the-variants.{Step};
-use crate::state;
-use layer::read;
+ghost use Rattle.rules.specs.declared.record.Record.{Record};
+use crate::reading;
+use lent::state;
 use motion::Moved;
 use rules::answers::Answer;
 use rules::answers::Answered;
 use rules::answers::Refusal;
 use rules::quantities::Clock;
 use rules::quantities::Seconds;
+use rules::quantities::TestedClock;
+use rules::record::CurveCounts;
+use rules::record::Frame;
+use rules::record::Progress;
 use rules::record::Record;
 
-// A step within its limits, on a layer.
-pub fn step_layer(layer: Record, t: u64) -> Answered
-    requires { ⌜ isLayer layer ≡ true ⌝ }
-    requires { ⌜ (within stepLimits t ≡ true) × (within clockLimits (layer .clock .0 + t) ≡ true) ⌝ }
-    ensures { λ r. ⌜ r ≡ called layer (Step t) ⌝ }
+// What a step answers: the layer's progress after it, or a refusal.
+pub enum Stepped {
+    Done(Progress),
+    Refused(Refusal),
+}
+
+// A step within its limits, on a layer that is lent by its parts; the water is left as the step leaves it.
+pub fn step_lent<'a>(
+    counts: CurveCounts,
+    frame: Frame,
+    progress: Progress,
+    void: &'a [u64; 64],
+    stress: &'a [u64; 64],
+    conductivity_void: &'a [u64; 64],
+    conductivity: &'a [u64; 64],
+    solids: &'a [u64; 128],
+    water: &mut [u64; 128],
+    table_time: &'a [u64; 64],
+    table_load: &'a [u64; 64],
+    t: u64,
+) -> Stepped
+    ghost { Record }
+    requires { λ r. ⌜ recordOf (soilOf counts (now void) (now stress) (now «conductivity_void») (now conductivity)) (layerOf frame progress (now solids) (now water) (now «table_time») (now «table_load»)) ≡ r ⌝ }
+    requires { λ r. ⌜ isLayer r ≡ true ⌝ }
+    requires { λ r. ⌜ (within stepLimits t ≡ true) × (within clockLimits (progress .clock .0 + t) ≡ true) ⌝ }
+    requires { λ _. ⌜ length (now water) ≡ 128 ⌝ }
+    ensures { λ r s. ⌜ stepAnswered r s (now (water .exit)) ≡ called r (Step t) ⌝ }
 {
-    let n = layer.elements;
-    let m = layer.compressibility_points;
-    let k = layer.conductivity_points;
-    let top = layer.top;
-    let bottom = layer.bottom;
-    let load = layer.load;
-    let clock = layer.clock;
-    let top_outflow = layer.top_outflow;
-    let bottom_outflow = layer.bottom_outflow;
-    let mut burden = [0u64; 128];
+    let n = frame.elements;
+    let m = counts.compressibility;
+    let top = frame.top;
+    let bottom = frame.bottom;
+    let load = progress.load;
     let mut sensitivity = [0u64; 128];
     let mut low = [0u64; 128];
     let mut high = [0u64; 128];
     let slope = motion::prepare(
         n,
-        layer.gravity,
-        &layer.solids,
+        solids,
         m,
-        &layer.compressibility_void,
-        &layer.compressibility_stress,
-        &mut burden,
+        void,
+        stress,
         &mut sensitivity,
         &mut low,
         &mut high,
     );
-    let mut stress_segment = [0usize; 128];
-    let mut conductivity_segment = [0usize; 128];
     let mut excess = [0i64; 128];
     let mut resistance = [0u64; 128];
-    read::read_elements(
-        n,
-        load.0,
-        &burden,
-        &layer.solids,
-        &layer.water,
-        m,
-        &layer.compressibility_void,
-        &layer.compressibility_stress,
-        k,
-        &layer.conductivity_void,
-        &layer.conductivity,
-        &mut stress_segment,
-        &mut conductivity_segment,
+    reading::read_layer(
+        counts,
+        frame,
+        load,
+        void,
+        stress,
+        conductivity_void,
+        conductivity,
+        solids,
+        water,
         &mut excess,
         &mut resistance,
     );
     if reach::too_long(n, top, bottom, slope, &resistance, &sensitivity, t) {
-        return state::refused(layer, Refusal::StepTooLong);
+        return Stepped::Refused(Refusal::StepTooLong);
     }
     let mut above = [0i64; 128];
-    let mut water = layer.water;
-    match motion::advance(
+    let moved = motion::advance(
         n,
         top,
         bottom,
@@ -83,36 +99,58 @@ pub fn step_layer(layer: Record, t: u64) -> Answered
         &low,
         &high,
         &mut above,
+        water,
+    );
+    match moved {
+        Moved::Leaves => Stepped::Refused(Refusal::StepOffCurve),
+        Moved::Flows(first, last) => Stepped::Done(state::later(progress, t, first, last)),
+    }
+}
+
+// A step within its limits, on a layer.
+pub fn step_layer(r: Record, t: u64) -> Answered
+    requires { ⌜ isLayer r ≡ true ⌝ }
+    requires { ⌜ (within stepLimits t ≡ true) × (within clockLimits (r .layer .progress .clock .0 + t) ≡ true) ⌝ }
+    ensures { λ a. ⌜ a ≡ called r (Step t) ⌝ }
+{
+    let mut water = r.layer.water;
+    let stepped = step_lent(
+        r.soil.counts,
+        r.layer.frame,
+        r.layer.progress,
+        &r.soil.compressibility_void,
+        &r.soil.compressibility_stress,
+        &r.soil.conductivity_void,
+        &r.soil.conductivity,
+        &r.layer.solids,
         &mut water,
-    ) {
-        Moved::Leaves => state::refused(layer, Refusal::StepOffCurve),
-        Moved::Flows(first, last) => Answered {
+        &r.layer.table_time,
+        &r.layer.table_load,
+        t,
+    );
+    match stepped {
+        Stepped::Refused(cause) => state::refused(r, cause),
+        Stepped::Done(progress) => Answered {
             answer: Answer::Done,
-            after: state::with_state(
-                layer,
-                water,
-                load,
-                Clock(clock.0 + t),
-                top_outflow + last,
-                bottom_outflow - first,
-            ),
+            after: state::with_parts(r, water, progress),
         },
     }
 }
 
 // A step of t seconds, on any record.
-pub fn take_step(layer: Record, t: u64) -> Answered
-    ensures { λ r. ⌜ r ≡ called layer (Step t) ⌝ }
+pub fn take_step(r: Record, t: u64) -> Answered
+    ensures { λ a. ⌜ a ≡ called r (Step t) ⌝ }
+    ensures { λ a. ⌜ answerNumbers (a .answer) ≡ calledNumbers r (Step t) ⌝ }
 {
-    if !sound::record::is_layer(layer) {
-        return state::refused(layer, Refusal::NoLayer);
+    if !sound::record::is_layer(r) {
+        return state::refused(r, Refusal::NoLayer);
     }
     if !Seconds::holds(t) {
-        return state::refused(layer, Refusal::StepOutside);
+        return state::refused(r, Refusal::StepOutside);
     }
-    let clock = layer.clock;
-    if !Clock::holds(clock.0 + t) {
-        return state::refused(layer, Refusal::StepOutside);
+    let clock = r.layer.progress.clock;
+    match Clock::new(clock.0 + t) {
+        TestedClock::Outside => state::refused(r, Refusal::StepOutside),
+        TestedClock::Within(_) => step_layer(r, t),
     }
-    step_layer(layer, t)
 }

@@ -76,12 +76,16 @@ module _ (site : Site) (water : List ℕ) (opened : Record) (h : Stands site (su
   unfolding begun
   kept = h .kept
 
+  own : first .solids ≡ site.solids
+  unfolding begun
+  own = refl
+
   followed : Follows site (sum water) calls opened first
   unfolding begun
-  followed = follows site (sum water) calls opened first h
+  followed = follows site (sum water) calls opened first own h
 
   accepted : AllAccepted site (first .state) (c .events)
-  accepted = course-accepted site (sound .table) calls first
+  accepted = course-accepted site (sound .table) calls first own
 
   -- ---- the record and the answers are the tally's
 
@@ -94,7 +98,7 @@ module _ (site : Site) (water : List ℕ) (opened : Record) (h : Stands site (su
   pub same-state : recordState r ≡ last
   same-state = followed .stands .state-is
 
-  pub starting-water : r .«starting_water» ≡ waterLeft (first .state)
+  pub starting-water : r .layer .frame .«starting_water» ≡ waterLeft (first .state)
   unfolding begun waterLeft
   starting-water = followed .stands .starting-is
 
@@ -128,7 +132,7 @@ module _ (site : Site) (water : List ℕ) (opened : Record) (h : Stands site (su
       settlement r ≡ pos (layerHeight (first .solids) (first .state)) -ℤ pos (layerHeight ((recordSite r) .solids) (recordState r))
   unfolding settlement
   settlement-is =
-      let same : sum ((recordSite r) .solids) + r .«starting_water» ≡ layerHeight (first .solids) (first .state) =
+      let same : sum ((recordSite r) .solids) + r .layer .frame .«starting_water» ≡ layerHeight (first .solids) (first .state) =
       rw (job-solids, starting-water) (sym first-height) in
       ap (λ (n : ℕ). pos n -ℤ pos (layerHeight ((recordSite r) .solids) (recordState r))) same
 
@@ -159,7 +163,7 @@ module _ (site : Site) (water : List ℕ) (opened : Record) (h : Stands site (su
   bounded =
       let b = bounding site (first .state) in
       let along =
-      events-bounded site sound (sum water) (lowest ps) (highest ps) (b .top) (b .bottom) (c .events) first accepted kept bounded-first in
+      events-bounded site sound (sum water) (lowest ps) (highest ps) (b .top) (b .bottom) (c .events) first own accepted kept bounded-first in
       let all = subst (λ (y : Tally). AllExcess site (within-bounds y) (y .state)) (sym (course-tallied site calls first)) along in
       rw (same-site, same-state) (every-image (within-bounds (c .tally)) (λ e. e .excess) (elements site last) .1 all)
 
@@ -170,5 +174,5 @@ module _ (site : Site) (water : List ℕ) (opened : Record) (h : Stands site (su
   unfolding excesses begun
   not-lowered none p b =
       let never : (tallied site (c .events) first) .falls ≡ 0 = sym (ap (λ (y : Tally). y .falls) (course-tallied site calls first)) ∙ none in
-      events-not-lowered site sound (sum water) (level-zero site sound b) (c .events) first accepted kept
+      events-not-lowered site sound (sum water) (level-zero site sound b) (c .events) first own accepted kept
       (every-image NotNegative (λ e. e .excess) (elements site (first .state)) .0 p) (omega arith)

@@ -13,7 +13,7 @@ use Rattle.rules.specs.Outcome.{Outcome, refused, ran, outcome}
 use Rattle.rules.specs.Refusals.{Trial, firstCause}
 use Rattle.rules.specs.Run.{loadSet, stepTaken, runRefusal}
 use Rattle.rules.specs.Step.{stepRefusal}
-use Rattle.rules.specs.Tally.{Tally, tallied, course}
+use Rattle.rules.specs.Tally.{Tally, tallySite, tallied, course}
 use Rattle.rules.specs.declared.answers.Answer.{Answer}
 use Rattle.rules.specs.declared.answers.Answer.the-variants.{Done, Refused}
 use Rattle.rules.specs.declared.answers.Call.{Call}
@@ -49,4 +49,5 @@ pub answers-on-layer : (site : Site) (calls : List Call) (y : Tally) → Every O
 unfolding course Every
 answers-on-layer site [] y = tt
 answers-on-layer site (call ∷ rest) y =
-    (call-on-layer site (y .state) call, answers-on-layer site rest (tallied site ((outcome site (y .state) call) .events) y))
+    let own = tallySite site y in
+    (call-on-layer own (y .state) call, answers-on-layer site rest (tallied site ((outcome own (y .state) call) .events) y))

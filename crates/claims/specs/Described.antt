@@ -8,25 +8,28 @@ use mathlib.Core.Option.{none}
 use mathlib.Core.Path.{_≡_, refl}
 use Rattle.claims.specs.Causes.{twice-not, neither, none-holds}
 use Rattle.claims.specs.Fixed.{Fixed, sized-dry}
-use Rattle.job.specs.SoundHeader.{sound-header}
+use Rattle.laws.specs.SoundHeader.{kept-header}
 use Rattle.laws.specs.Every.{Every}
 use Rattle.numbers.specs.Equality.{eqℤ-refl}
 use Rattle.numbers.specs.Integers.{eqℤ}
 use Rattle.numbers.specs.Lists.{all}
 use Rattle.numbers.specs.Searches.{passed, is-true, both}
 use Rattle.rules.specs.Curve.{compressibilitySound, conductivitySound}
-use Rattle.rules.specs.Job.{Description, field, described, numberedFace, describedRecord, jobSite, givenWater, fieldsSound, headerKept, jobCauses}
+use Rattle.rules.specs.Job.{Description, field, described, numberedFace, frameOf, jobSite, givenWater, fieldsSound, headerKept, jobCauses}
 use Rattle.rules.specs.Layer.{topPressure}
 use Rattle.rules.specs.Load.{tableSound}
 use Rattle.rules.specs.Quantities.{within, clockLimits, budgetLimits, flagLimits, elementLimits, curveLimits, tableLimits, gravityLimits, startingWaterLimits}
+use Rattle.numbers.specs.Sums.{sum}
+use Rattle.rules.specs.Opening.{openedRecord}
 use Rattle.rules.specs.Record.{headerSound, faceNumber, sizesSound, faceHolds, recordSite}
 use Rattle.rules.specs.Refusals.{firstCause}
+use Rattle.rules.specs.declared.job.Header.{Header}
 use Rattle.rules.specs.declared.quantities.Pressure.{Pressure}
 use Rattle.rules.proofs.Limits.{inside}
 
 -- a job's description meets the tests of a layer
 pub record Described (d : Description) : Type 0 where
-  pub header : headerKept d ≡ true
+  pub header : headerKept d.header ≡ true
   pub fields : fieldsSound d ≡ true
   pub compressibility : compressibilitySound ((jobSite d) .compressibility) ≡ true
   pub conductivity : conductivitySound ((jobSite d) .conductivity) ((jobSite d) .compressibility) ≡ true
@@ -40,7 +43,7 @@ described-sound job e =
     let true-of : (b : Bool) → T (not (not b)) → b ≡ true = λ b t. is-true b (twice-not b t) in
     let later = held .1 .1 in
     record {
-      header = true-of (headerKept d) (neither (not (headerKept d)) (not (eqb (field 2 14 job) 0)) (held .0) .0);
+      header = true-of (headerKept d.header) (neither (not (headerKept d.header)) (not (eqb (field 2 14 job) 0)) (held .0) .0);
       fields = true-of (fieldsSound d) (later .0);
       compressibility = true-of (compressibilitySound ((jobSite d) .compressibility)) (later .1 .0);
       conductivity = true-of (conductivitySound ((jobSite d) .conductivity) ((jobSite d) .compressibility)) (later .1 .1 .0);
@@ -62,22 +65,22 @@ face-holds zero held = refl
 face-holds (suc n) held = rw (eqb·suc-zero n, numberedFace) (is-true (eqℤ (held .0) (held .0)) (eqℤ-refl (held .0)))
 
 -- the header of the record, whose faces are numbered anew and which has no start
-header-again : (d : Description) (h k : Pressure) → headerKept d ≡ true →
-    headerSound (faceNumber (numberedFace d.header.top h)) (faceNumber (numberedFace d.header.bottom k)) d.header.elements (d .header .«compressibility_points»)
-    (d .header .«conductivity_points») (d .header .«table_points») 0 d.header.gravity ≡ true
-unfolding headerSound headerKept
-header-again d h k e =
-    let s = sound-header d.header.top d.header.bottom d.header.elements (d .header .«compressibility_points») (d .header .«conductivity_points») (d .header .«table_points») d.header.start d.header.gravity e in
+header-again : (h : Header) (held held′ : Pressure) → headerKept h ≡ true →
+    headerSound (faceNumber (numberedFace h.top held)) (faceNumber (numberedFace h.bottom held′)) h.elements (h .«compressibility_points»)
+    (h .«conductivity_points») (h .«table_points») 0 h.gravity ≡ true
+unfolding headerSound
+header-again h held held′ e =
+    let s = kept-header h e in
     rw (
-      face-number d.header.top h (s .top-kept .most),
-      face-number d.header.bottom k (s .bottom-kept .most),
-      inside flagLimits d.header.top (s .top-kept .least) (s .top-kept .most),
-      inside flagLimits d.header.bottom (s .bottom-kept .least) (s .bottom-kept .most),
-      inside elementLimits d.header.elements (s .elements-kept .least) (s .elements-kept .most),
-      inside curveLimits (d .header .«compressibility_points») (s .compressibility-kept .least) (s .compressibility-kept .most),
-      inside curveLimits (d .header .«conductivity_points») (s .conductivity-kept .least) (s .conductivity-kept .most),
-      inside tableLimits (d .header .«table_points») (s .table-kept .least) (s .table-kept .most),
-      inside gravityLimits d.header.gravity (s .gravity-kept .least) (s .gravity-kept .most),
+      face-number h.top held (s .top-kept .most),
+      face-number h.bottom held′ (s .bottom-kept .most),
+      inside flagLimits h.top (s .top-kept .least) (s .top-kept .most),
+      inside flagLimits h.bottom (s .bottom-kept .least) (s .bottom-kept .most),
+      inside elementLimits h.elements (s .elements-kept .least) (s .elements-kept .most),
+      inside curveLimits (h .«compressibility_points») (s .compressibility-kept .least) (s .compressibility-kept .most),
+      inside curveLimits (h .«conductivity_points») (s .conductivity-kept .least) (s .conductivity-kept .most),
+      inside tableLimits (h .«table_points») (s .table-kept .least) (s .table-kept .most),
+      inside gravityLimits h.gravity (s .gravity-kept .least) (s .gravity-kept .most),
     )
 
 module _ (d : Description) (s : Described d) where
@@ -90,15 +93,15 @@ module _ (d : Description) (s : Described d) where
       let given = eqb d.header.start 0 || all (λ w. eqb w 0) (givenWater d) in
       both a end (both (a && end) budget (both (a && end && budget) given (passed (s .fields)) .0) .0) .0
 
-  pub fixed-described : (start : ℕ) → start ≤ startingWaterLimits .most → Fixed (describedRecord d start)
-  unfolding describedRecord jobSite recordSite headerKept
-  fixed-described start h = record {
-    header = header-again d topPressure _ (s .header);
+  pub fixed-opened : (water : List ℕ) → sum water ≤ startingWaterLimits .most → Fixed (openedRecord d water)
+  unfolding openedRecord frameOf jobSite recordSite
+  fixed-opened water h = record {
+    header = header-again d.header topPressure _ (s .header);
     sizes = is-true _ (sized-dry (jobSite d) (givenWater d) sized);
     compressibility = s .compressibility;
     conductivity = s .conductivity;
     table = s .table;
     top = face-holds (d .header .top) topPressure;
     bottom = face-holds (d .header .bottom) _;
-    starting = inside startingWaterLimits start (omega arith) h;
+    starting = inside startingWaterLimits (sum water) (omega arith) h;
   }

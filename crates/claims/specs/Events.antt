@@ -24,7 +24,7 @@ use Rattle.rules.specs.declared.answers.Answer.the-variants.{Done}
 use Rattle.rules.specs.declared.answers.Call.{Call}
 use Rattle.rules.specs.declared.answers.Call.the-variants.{Load, Step, Run}
 use Rattle.rules.specs.declared.answers.Stop.{Stop}
-use Rattle.rules.specs.declared.answers.Stop.the-variants.{AtEnd, NoStep, OffCurve}
+use Rattle.rules.specs.declared.answers.Stop.the-variants.{AtEnd, BudgetUsed, NoStep, OffCurve}
 use Rattle.rules.proofs.Limits.{within-parts}
 
 -- what is not outside limits keeps them
@@ -57,10 +57,16 @@ module _ (site : Site) (sound : T (tableSound site.loadTable)) where
   longest-within end s h = omega (arith, longest-accepted site end s .0)
 
   -- a run sets loads of the table and takes longest steps, up to its end
-  run-accepted : (end budget : ℕ) (s : State) → s.clock ≤ end → end ≤ clockLimits .most →
+  pub run-accepted : (end budget : ℕ) (s : State) → s.clock ≤ end → end ≤ clockLimits .most →
       AllAccepted site s ((running site end budget s) .events)
   unfolding running AllAccepted Accepted afterEvent withLoad stepped
-  run-accepted end zero s h k = tt
+  run-accepted end zero s h k =
+      by-test (eqb s.clock end)
+      (λ c. AllAccepted site s ((elim c as (λ _. RunOutcome) [
+        | true ↦ record { stop = AtEnd; events = [] }
+        | false ↦ record { stop = BudgetUsed; events = [] }
+      ]) .events))
+      (λ _. tt) (λ _. tt)
   run-accepted end (suc budget) s h k =
       by-test (eqb s.clock end)
       (λ c. AllAccepted site s ((elim c as (λ _. RunOutcome) [

@@ -2,9 +2,9 @@
 use Prim.Native.Nat.{ℕ, _+_}
 use lib.IntN.{ℤ, pos, _+ℤ_, _-ℤ_}
 use mathlib.Core.List.{List, [], _∷_}
-use mathlib.Core.Path.{_≡_, sym, subst}
+use mathlib.Core.Path.{_≡_, sym, subst, _∙_}
 use Rattle.claims.specs.Accepted.{Accepted, AllAccepted}
-use Rattle.claims.specs.Courses.{recorded-state}
+use Rattle.claims.specs.Courses.{recorded-state, recorded-solids}
 use Rattle.claims.specs.Kept.{SoundSite, Kept, holds-map, event-keeps}
 use Rattle.laws.specs.Amid.{Between}
 use Rattle.laws.specs.Every.{Every}
@@ -81,22 +81,23 @@ first-within lo hi falls rises p h =
 module _ (site : Site) (sound : SoundSite site) (start : ℕ) (lo hi : ℤ) (top : Holds (Between lo hi) site.top)
     (bottom : Holds (Between lo hi) site.bottom) where
   -- an accepted event keeps them
-  event-bounded : (e : Event) (y : Tally) → Accepted site (y .state) e → Kept site start (y .state) →
+  event-bounded : (e : Event) (y : Tally) → y.solids ≡ site.solids → Accepted site (y .state) e → Kept site start (y .state) →
       AllExcess site (Bounded lo hi y) (y .state) → AllExcess site (Bounded lo hi (recorded site e y)) ((recorded site e y) .state)
   unfolding recorded Accepted
-  event-bounded (loadSet new) y a k h =
+  event-bounded (loadSet new) y own a k h =
       loaded site (Bounded lo hi y) _ new (y .state) (widened lo hi y.falls y.rises (y .state .load) new) h
-  event-bounded (stepTaken t) y a k h =
-      stays-between site _ _ t (y .state) (sound .falls) (sound .solid)
+  event-bounded (stepTaken t) y own a k h =
+      subst (AllExcess site (Bounded lo hi y)) (sym (recorded-state site (stepTaken t) y own))
+      (stays-between site _ _ t (y .state) (sound .falls) (sound .solid)
       (holds-map (first-within lo hi y.falls y.rises) site.top top) (holds-map (first-within lo hi y.falls y.rises) site.bottom bottom)
-      h (k .on-curve) (a .short) (a .stays)
+      h (k .on-curve) (a .short) (a .stays))
 
   -- along accepted events every excess pressure keeps the bounds of the tally
-  pub events-bounded : (es : List Event) (y : Tally) → AllAccepted site (y .state) es → Kept site start (y .state) →
+  pub events-bounded : (es : List Event) (y : Tally) → y.solids ≡ site.solids → AllAccepted site (y .state) es → Kept site start (y .state) →
       AllExcess site (Bounded lo hi y) (y .state) → AllExcess site (Bounded lo hi (tallied site es y)) ((tallied site es y) .state)
   unfolding AllAccepted tallied
-  events-bounded [] y a k h = h
-  events-bounded (e ∷ rest) y a k h =
-      let same = sym (recorded-state site e y) in
-      events-bounded rest (recorded site e y) (subst (λ (s : State). AllAccepted site s rest) same (a .1))
-      (subst (Kept site start) same (event-keeps site sound start e (y .state) (a .0) k)) (event-bounded e y (a .0) k h)
+  events-bounded [] y own a k h = h
+  events-bounded (e ∷ rest) y own a k h =
+      let same = sym (recorded-state site e y own) in
+      events-bounded rest (recorded site e y) (recorded-solids site e y ∙ own) (subst (λ (s : State). AllAccepted site s rest) same (a .1))
+      (subst (Kept site start) same (event-keeps site sound start e (y .state) (a .0) k)) (event-bounded e y own (a .0) k h)

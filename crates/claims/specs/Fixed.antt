@@ -8,7 +8,7 @@ use mathlib.Core.Bool.{Bool, true, _&&_}
 use mathlib.Core.List.{List, [], _∷_, map}
 use mathlib.Core.Path.{_≡_, refl, sym}
 use Rattle.claims.specs.Kept.{SoundSite, Kept}
-use Rattle.job.specs.SoundHeader.{sound-header}
+use Rattle.laws.specs.SoundHeader.{sound-header}
 use Rattle.laws.specs.Every.{Every, every-map, every-all}
 use Rattle.laws.specs.Index.{points-length}
 use Rattle.laws.specs.Spread.{Holds}
@@ -33,22 +33,22 @@ use Rattle.rules.specs.declared.quantities.Pressure.{Pressure}
 use Rattle.rules.specs.declared.record.Record.{Record}
 use Rattle.rules.proofs.Limits.{inside, inside-signed, within-parts}
 use Rattle.rules.proofs.Sound.{falls-down}
-use Rattle.sound.specs.SiteFacts.{site-by, bottom-within}
-use Rattle.holdings.specs.Sizes.{signed-between}
-use Rattle.sound.specs.StateFacts.{state-by}
+use Rattle.laws.specs.SiteFacts.{site-by, bottom-within}
+use Rattle.laws.specs.Sizes.{signed-between}
+use Rattle.laws.specs.StateFacts.{state-by}
 
 -- the tests of a layer that no call changes
 pub record Fixed (r : Record) : Type 0 where
   pub header :
-      headerSound (faceNumber r.top) (faceNumber r.bottom) r.elements (r .«compressibility_points») (r .«conductivity_points»)
-      (r .«table_points») 0 r.gravity ≡ true
+      headerSound (faceNumber (r .layer .frame .top)) (faceNumber (r .layer .frame .bottom)) (r .layer .frame .elements) (r .soil .counts .compressibility) (r .soil .counts .conductivity)
+      (r .layer .frame .«table_points») 0 (r .layer .frame .gravity) ≡ true
   pub sizes : sizesSound (recordSite r) [] ≡ true
   pub compressibility : compressibilitySound ((recordSite r) .compressibility) ≡ true
   pub conductivity : conductivitySound ((recordSite r) .conductivity) ((recordSite r) .compressibility) ≡ true
   pub table : tableSound ((recordSite r) .loadTable) ≡ true
-  pub top : faceHolds r.top topPressure ≡ true
-  pub bottom : faceHolds r.bottom (bottomPressure ((recordSite r) .topLevel) ((recordSite r) .bottomLevel)) ≡ true
-  pub starting : within startingWaterLimits (r .«starting_water») ≡ true
+  pub top : faceHolds (r .layer .frame .top) topPressure ≡ true
+  pub bottom : faceHolds (r .layer .frame .bottom) (bottomPressure ((recordSite r) .topLevel) ((recordSite r) .bottomLevel)) ≡ true
+  pub starting : within startingWaterLimits (r .layer .frame .«starting_water») ≡ true
 
 -- ---- the site is sound
 
@@ -73,7 +73,7 @@ unfolding recordSite sizesSound topPressure
 sound-site r f =
     let site = recordSite r in
     let header = sound-header _ _ _ _ _ _ _ _ (f .header) in
-    let closed = closedAtZero r.bottom (site .bottomLevel) in
+    let closed = closedAtZero (r .layer .frame .bottom) (site .bottomLevel) in
     let all-dry = both (dry site) true (passed (f .sizes)) .0 in
     let (kept, solids) = both (levels site && closed) (all (within solidsLimits) (site .solids)) all-dry in
     let leveled = both (levels site) closed kept .0 in
@@ -81,17 +81,17 @@ sound-site r f =
     let each = every-all (within solidsLimits) (site .solids) .0 solids in
     record {
       compressibility = passed (f .compressibility);
-      falls = falls-down (r .«compressibility_points») (r .«compressibility_void») (r .«compressibility_stress») (f .compressibility);
+      falls = falls-down (r .soil .counts .compressibility) (r .soil .«compressibility_void») (r .soil .«compressibility_stress») (f .compressibility);
       two =
-          rw (points-length (r .«compressibility_points») (r .«compressibility_void») (r .«compressibility_stress»))
+          rw (points-length (r .soil .counts .compressibility) (r .soil .«compressibility_void») (r .soil .«compressibility_stress»))
           (header .compressibility-kept .least);
       table = passed (f .table);
       solid = every-map (λ S. T (within solidsLimits S)) (λ S. 0 < S) (λ S t. omega (arith, within-parts solidsLimits S t .0)) (site .solids) each;
       small = every-map (λ S. T (within solidsLimits S)) (λ S. S ≤ 100_000_000) (λ S t. within-parts solidsLimits S t .1) (site .solids) each;
-      few = rw (first-length r.elements r.solids) (header .elements-kept .most);
+      few = rw (first-length (r .layer .frame .elements) (r .layer .solids)) (header .elements-kept .most);
       light = header .gravity-kept .most;
-      top-holds = holds-of r.top topPressure (f .top);
-      bottom-holds = holds-of r.bottom (bottomPressure (site .topLevel) (site .bottomLevel)) (f .bottom);
+      top-holds = holds-of (r .layer .frame .top) topPressure (f .top);
+      bottom-holds = holds-of (r .layer .frame .bottom) (bottomPressure (site .topLevel) (site .bottomLevel)) (f .bottom);
       held-within =
           bottom-within (site .topLevel) (site .bottomLevel) (signed-between levelLimits (site .topLevel) top)
           (signed-between levelLimits (site .bottomLevel) bottom);
@@ -115,7 +115,7 @@ outflow-kept : (outflow : ℤ) (clock : ℕ) → Within outflow (2_300_000_000 *
 unfolding outflowSound
 outflow-kept outflow clock w = is-true _ (le→leb (natAbs outflow) (2_300_000_000 * clock) (w .bound))
 
-module _ (r : Record) (f : Fixed r) (k : Kept (recordSite r) (r .«starting_water») (recordState r)) where
+module _ (r : Record) (f : Fixed r) (k : Kept (recordSite r) (r .layer .frame .«starting_water») (recordState r)) where
   water-sized : sizesSound (recordSite r) ((recordState r) .water) ≡ true
   unfolding sizesSound
   water-sized =
@@ -163,10 +163,10 @@ own-places list array n e =
     sym (tabulated n _ list 0 e (λ i h. sym (getD-overlaid list array i 0 (omega arith))))
 
 -- a record with another state has that state, if it has a water height for each element
-pub state-set : (r : Record) (s : State) → length s.water ≡ r.elements → recordState (withState r s) ≡ s
+pub state-set : (r : Record) (s : State) → length s.water ≡ (r .layer .frame .elements) → recordState (withState r s) ≡ s
 unfolding withState recordState
 state-set r s e = λ i. record {
-  water = own-places s.water r.water r.elements e i;
+  water = own-places s.water (r .layer .water) (r .layer .frame .elements) e i;
   load = s.load;
   clock = s.clock;
   topOutflow = s.topOutflow;
@@ -185,12 +185,12 @@ module _ (r : Record) where
   site-after [] = refl
   site-after (e ∷ rest) = refl
 
-  pub starting-after : (es : List Event) → (withEvents r es) .«starting_water» ≡ r .«starting_water»
+  pub starting-after : (es : List Event) → (withEvents r es) .layer .frame .«starting_water» ≡ r .layer .frame .«starting_water»
   unfolding withEvents
   starting-after [] = refl
   starting-after (e ∷ rest) = refl
 
-  pub state-after : (es : List Event) → length ((afterEvents (recordSite r) es (recordState r)) .water) ≡ r.elements →
+  pub state-after : (es : List Event) → length ((afterEvents (recordSite r) es (recordState r)) .water) ≡ (r .layer .frame .elements) →
       recordState (withEvents r es) ≡ afterEvents (recordSite r) es (recordState r)
   unfolding withEvents afterEvents
   state-after [] h = refl

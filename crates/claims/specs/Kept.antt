@@ -2,7 +2,7 @@
 use Prim.Native.Nat.{ℕ, _*_, _≤_, _<_}
 use native.Mathlib.Omega.{arith}
 use lib.Dec.{T, lit≤}
-use lib.IntN.{ℤ, pos, natAbs, _+ℤ_}
+use lib.IntN.{ℤ, pos, _+ℤ_}
 use lib.ListN.{length}
 use mathlib.Core.List.{List, [], _∷_, map}
 use mathlib.Core.Path.{_≡_, sym, subst, _∙_}
@@ -23,7 +23,8 @@ use Rattle.rules.specs.Layer.{Site, State, elements, bottomPressure}
 use Rattle.rules.specs.Load.{tableSound, withLoad}
 use Rattle.rules.specs.Quantities.{clockLimits}
 use Rattle.rules.specs.Run.{Event, loadSet, stepTaken, afterEvent, afterEvents}
-use Rattle.rules.specs.Step.{stressSlope, upwardFlows, moved, stepped, onCurve, allOnCurve}
+use Rattle.numbers.specs.Lists.{paired}
+use Rattle.rules.specs.Step.{stressSlope, upwardFlows, moved, newHeight, stepped, onCurve, allOnCurve}
 use Rattle.rules.specs.declared.quantities.Face.{Face}
 use Rattle.rules.specs.declared.quantities.Face.the-variants.{Closed, Drained}
 
@@ -63,16 +64,16 @@ pub record Kept (site : Site) (start : ℕ) (s : State) : Type 0 where
   pub bottom-bound : Within s.bottomOutflow (2_300_000_000 * s.clock)
   pub balanced : pos start ≡ pos (sum s.water) +ℤ s.topOutflow +ℤ s.bottomOutflow
 
--- heights on the curve are on it without their signs, as none is negative
-unsigned-on : (curve : List Point) (Ss : List ℕ) (zs : List ℤ) → T (allOnCurve curve Ss zs) →
-    T (allOnCurve curve Ss (map pos (map natAbs zs)))
-unfolding allOnCurve onCurve
-unsigned-on curve [] zs t = tt
-unsigned-on curve (S ∷ Ss) [] t = tt
-unsigned-on curve (S ∷ Ss) (z ∷ zs) t =
+-- heights on the curve are the new heights, as none is negative
+heights-on : (curve : List Point) (Ss ws : List ℕ) (zs : List ℤ) → T (allOnCurve curve Ss zs) → T (allOnCurve curve Ss (map pos (paired newHeight ws zs)))
+unfolding allOnCurve onCurve paired
+heights-on curve [] ws zs t = tt
+heights-on curve (S ∷ Ss) [] zs t = tt
+heights-on curve (S ∷ Ss) (w ∷ ws) [] t = tt
+heights-on curve (S ∷ Ss) (w ∷ ws) (z ∷ zs) t =
     let (here, more) = both (onCurve curve S z) (allOnCurve curve Ss zs) t in
-    joined (onCurve curve S (pos (natAbs z))) (allOnCurve curve Ss (map pos (map natAbs zs))) (on-curve-parts curve S z here .1)
-    (unsigned-on curve Ss zs more)
+    joined (onCurve curve S (pos (newHeight w z))) (allOnCurve curve Ss (map pos (paired newHeight ws zs))) (on-curve-parts curve S w z here .1)
+    (heights-on curve Ss ws zs more)
 
 module _ (site : Site) (sound : SoundSite site) (start : ℕ) where
   -- a load within its limits keeps it, and so does an accepted step
@@ -100,7 +101,7 @@ module _ (site : Site) (sound : SoundSite site) (start : ℕ) where
       record {
         size = stepped-length site t s (k .size) ∙ k .size;
         on-curve =
-            unsigned-on site.compressibility site.solids (moved (upwardFlows site.top site.bottom t (elements site s)) s.water)
+            heights-on site.compressibility site.solids s.water (moved (upwardFlows site.top site.bottom t (elements site s)) s.water)
             (stays-on site s t (a .stays));
         load = k .load;
         clock = a .clock-most;

@@ -3,14 +3,14 @@ use Prim.Native.Nat.{ℕ, _≤_}
 use native.Mathlib.Omega.{arith}
 use lib.IntN.{pos, _+ℤ_, +ℤ-idr}
 use lib.ListN.{length}
-use mathlib.Core.List.{List}
+use mathlib.Core.List.{List, []}
 use mathlib.Core.Logic.{_⊎_, inl, inr}
 use mathlib.Core.Option.{Option, none, some}
 use mathlib.Core.Path.{_≡_, refl, sym, _∙_}
 use Rattle.claims.specs.Accepted.{LoadKept}
 use Rattle.claims.specs.TableLoads.{sound-first}
-use Rattle.claims.specs.Described.{Described, described-sound, fixed-described}
-use Rattle.claims.specs.Fixed.{sound-site, water-limited, fixed-state, state-set}
+use Rattle.claims.specs.Described.{Described, described-sound, fixed-opened}
+use Rattle.claims.specs.Fixed.{sound-site, water-limited, own-places}
 use Rattle.claims.specs.Kept.{SoundSite, Kept}
 use Rattle.claims.specs.Stands.{Stands}
 use Rattle.claims.specs.Starts.{Starts, water-starts}
@@ -18,11 +18,11 @@ use Rattle.laws.specs.Every.{every-at}
 use Rattle.numbers.specs.Filled.{first-length}
 use Rattle.numbers.specs.Interval.{within-pos, within-le}
 use Rattle.numbers.specs.Sums.{sum, sum-le}
-use Rattle.rules.specs.Job.{Description, described, describedRecord, jobSite, givenWater, jobCauses}
+use Rattle.rules.specs.Job.{Description, described, frameOf, jobSite, givenWater, jobCauses}
 use Rattle.rules.specs.Layer.{Site}
 use Rattle.rules.specs.Opening.{openedRecord, refusedOpening, descriptionWater, opening}
 use Rattle.rules.specs.Quantities.{startingWaterLimits, waterLimits}
-use Rattle.rules.specs.Record.{recordSite, withState}
+use Rattle.rules.specs.Record.{recordSite, recordState}
 use Rattle.rules.specs.Refusals.{firstCause}
 use Rattle.rules.specs.Start.{openingLoad, openingState}
 use Rattle.rules.specs.declared.answers.Answer.the-variants.{Done, Refused}
@@ -88,12 +88,12 @@ module _ (d : Description) (s : Described d) (water : List ℕ) (starts : descri
 
   -- the site is sound
   sound : SoundSite site
-  unfolding jobSite
-  sound = sound-site (describedRecord d 0) (fixed-described d s 0 (omega arith))
+  unfolding openedRecord recordSite jobSite sum
+  sound = sound-site (openedRecord d []) (fixed-opened d s [] (omega arith))
 
   -- as many solids heights and as many given heights as elements
   solids-many : length (site .solids) ≡ d.header.elements
-  unfolding jobSite recordSite describedRecord
+  unfolding jobSite
   solids-many = first-length d.header.elements d.solids
 
   given-many : length (givenWater d) ≡ d.header.elements
@@ -128,12 +128,17 @@ module _ (d : Description) (s : Described d) (water : List ℕ) (starts : descri
     balanced = sym (+ℤ-idr (pos (sum water) +ℤ pos 0) ∙ +ℤ-idr (pos (sum water)));
   }
 
+  -- the record has the site, and the state just opened
+  state-opened : recordState (openedRecord d water) ≡ openingState site water
+  unfolding openedRecord recordState frameOf openingState
+  state-opened = rw (own-places water d.water d.header.elements (on .size ∙ solids-many)) refl
+
   pub opened-stands : Stands site (sum water) (openingState site water) (openedRecord d water)
-  unfolding openedRecord withState jobSite recordSite describedRecord openingState
+  unfolding openedRecord frameOf jobSite recordSite
   opened-stands = record {
-    fixed = fixed-state (describedRecord d (sum water)) (openingState site water) (fixed-described d s (sum water) few);
+    fixed = fixed-opened d s water few;
     site-is = refl;
-    state-is = state-set (describedRecord d (sum water)) (openingState site water) (on .size ∙ solids-many);
+    state-is = state-opened;
     starting-is = refl;
     kept = kept;
   }

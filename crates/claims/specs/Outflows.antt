@@ -7,6 +7,7 @@ use mathlib.Core.List.{List, [], _∷_}
 use mathlib.Core.Logic.{_⊎_, inl, inr}
 use mathlib.Core.Path.{_≡_, sym, ap, subst, _∙_}
 use Rattle.claims.specs.Accepted.{StepAccepted, Accepted, AllAccepted}
+use Rattle.claims.specs.Courses.{recorded-state}
 use Rattle.claims.specs.Excesses.{AllExcess, loaded}
 use Rattle.claims.specs.Kept.{SoundSite, Kept, holds-map, event-keeps}
 use Rattle.laws.specs.Amid.{at-least}
@@ -92,23 +93,28 @@ module _ (site : Site) (sound : SoundSite site) (start : ℕ) (below : HoldsZero
   falls-grow (stepTaken t ∷ rest) y = falls-grow rest (recorded site (stepTaken t) y)
 
   -- along accepted events, if the load never falls, no step lowers an outflow
-  pub events-not-lowered : (es : List Event) (y : Tally) → AllAccepted site (y .state) es → Kept site start (y .state) →
-      AllExcess site NotNegative (y .state) → (tallied site es y) .falls ≤ y.falls → Every NotLowered (stepTraces site es (y .state))
+  pub events-not-lowered : (es : List Event) (y : Tally) → y.solids ≡ site.solids → AllAccepted site (y .state) es →
+      Kept site start (y .state) → AllExcess site NotNegative (y .state) → (tallied site es y) .falls ≤ y.falls →
+      Every NotLowered (stepTraces site es (y .state))
   unfolding AllAccepted Accepted Every tallied recorded stepTraces afterEvent
-  events-not-lowered [] y a k p h = tt
-  events-not-lowered (loadSet new ∷ rest) y a k p h =
+  events-not-lowered [] y own a k p h = tt
+  events-not-lowered (loadSet new ∷ rest) y own a k p h =
       let s = y .state in
       let next = recorded site (loadSet new) y in
       let grown = falls-grow rest next in
       let up =
       loaded site NotNegative NotNegative new s
       (λ q n. omega (signed, n, add-parts q (new -ℤ s .load), sub-parts new (s .load), sub-parts (s .load) new)) p in
-      events-not-lowered rest next (a .1) (event-keeps site sound start (loadSet new) s (a .0) k) up (omega arith)
-  events-not-lowered (stepTaken t ∷ rest) y a k p h =
-      let s = y .state in (
+      events-not-lowered rest next own (a .1) (event-keeps site sound start (loadSet new) s (a .0) k) up (omega arith)
+  events-not-lowered (stepTaken t ∷ rest) y own a k p h =
+      let s = y .state in
+      let next = recorded site (stepTaken t) y in
+      let same = recorded-state site (stepTaken t) y own in (
         step-not-lowered t s p,
-        events-not-lowered rest (recorded site (stepTaken t) y) (a .1) (event-keeps site sound start (stepTaken t) s (a .0) k)
-            (step-not-negative t s (a .0) k p) h,
+        subst (λ (s : State). Every NotLowered (stepTraces site rest s)) same
+            (events-not-lowered rest next own (subst (λ (s : State). AllAccepted site s rest) (sym same) (a .1))
+            (subst (Kept site start) (sym same) (event-keeps site sound start (stepTaken t) s (a .0) k))
+            (subst (AllExcess site NotNegative) (sym same) (step-not-negative t s (a .0) k p)) h),
       )
 
 -- a bottom that is closed, or at the top's level, holds 0 if it holds a pressure

@@ -2,14 +2,15 @@
 use Prim.Native.Nat.{ℕ}
 use mathlib.Core.List.{List, [], _∷_}
 use mathlib.Core.Path.{_≡_, refl, sym, ap, subst, _∙_}
+use Rattle.claims.specs.Accepted.{AllAccepted}
 use Rattle.claims.specs.Events.{call-accepted}
-use Rattle.claims.specs.Courses.{tallied-state}
+use Rattle.claims.specs.Courses.{tally-own, tallied-state, tallied-solids}
 use Rattle.claims.specs.Stands.{Stands, site-sound, stands-layer, stands-after}
 use Rattle.rules.specs.Calls.{called, replayed}
 use Rattle.rules.specs.Layer.{Site, State}
-use Rattle.rules.specs.Outcome.{outcome}
+use Rattle.rules.specs.Outcome.{Outcome, outcome}
 use Rattle.rules.specs.Record.{withEvents}
-use Rattle.rules.specs.Tally.{Tally, tallied, course}
+use Rattle.rules.specs.Tally.{Tally, tallySite, tallied, course}
 use Rattle.rules.specs.declared.answers.Answer.{Answer}
 use Rattle.rules.specs.declared.answers.Answered.{Answered}
 use Rattle.rules.specs.declared.answers.Call.{Call}
@@ -27,16 +28,20 @@ module _ (site : Site) (start : ℕ) where
     pub answers : (replayed r calls) .answers ≡ (course site calls y) .answers
     pub stands : Stands site start ((course site calls y) .tally .state) ((replayed r calls) .after)
 
-  pub follows : (calls : List Call) (r : Record) (y : Tally) → Stands site start (y .state) r → Follows calls r y
+  pub follows : (calls : List Call) (r : Record) (y : Tally) → y.solids ≡ site.solids → Stands site start (y .state) r → Follows calls r y
   unfolding replayed course
-  follows [] r y h = record { answers = refl; stands = h }
-  follows (call ∷ rest) r y h =
+  follows [] r y own h = record { answers = refl; stands = h }
+  follows (call ∷ rest) r y own h =
       let s = y .state in
-      let o = outcome site s call in
-      let e = called-standing s r call h in
-      let next = stands-after site start s r h (o .events) (call-accepted site (site-sound site start s r h .table) s call) in
+      let o = outcome (tallySite site y) s call in
+      let as-site : o ≡ outcome site s call = ap (λ (x : Site). outcome x s call) (tally-own site y own) in
+      let e : called r call ≡ record { answer = o .answer; after = withEvents r (o .events) } =
+      called-standing s r call h ∙ ap (λ (x : Outcome). record { answer = x .answer; after = withEvents r (x .events) }) (sym as-site) in
+      let accepted : AllAccepted site s (o .events) =
+      rw as-site (call-accepted site (site-sound site start s r h .table) s call) in
+      let next = stands-after site start s r h (o .events) accepted in
       let after = tallied site (o .events) y in
-      let more = follows rest (withEvents r (o .events)) after (rw (tallied-state site (o .events) y) next) in
+      let more = follows rest (withEvents r (o .events)) after (tallied-solids site (o .events) y ∙ own) (rw (tallied-state site (o .events) y own) next) in
       record {
         answers =
             ap (λ (a : Answered). a .answer ∷ (replayed (a .after) rest) .answers) e ∙

@@ -17,13 +17,13 @@ pub record Stands (site : Site) (start : ℕ) (s : State) (r : Record) : Type 0 
   pub fixed : Fixed r
   pub site-is : recordSite r ≡ site
   pub state-is : recordState r ≡ s
-  pub starting-is : r .«starting_water» ≡ start
+  pub starting-is : r .layer .frame .«starting_water» ≡ start
   pub kept : Kept site start s
 
 -- a solids height for each element
-solids-many : (r : Record) → length ((recordSite r) .solids) ≡ r.elements
+solids-many : (r : Record) → length ((recordSite r) .solids) ≡ (r .layer .frame .elements)
 unfolding recordSite
-solids-many r = first-length r.elements r.solids
+solids-many r = first-length (r .layer .frame .elements) (r .layer .solids)
 
 module _ (site : Site) (start : ℕ) (s : State) (r : Record) (h : Stands site start s r) where
   pub site-sound : SoundSite site

@@ -31,7 +31,7 @@ pub record Term3 (site : Site) (first : Tally) (c : Course) (answers : List Answ
   -- The record's solids, water, load, clock, outflows and starting water are the tally's, and so is every answer; cause 11 never arises.
   pub solids-as-tallied : (recordSite r) .solids ≡ c .tally .solids
   pub state-as-tallied : recordState r ≡ c .tally .state
-  pub starting-water-as-tallied : r .«starting_water» ≡ waterLeft (first .state)
+  pub starting-water-as-tallied : r .layer .frame .«starting_water» ≡ waterLeft (first .state)
   pub answers-as-tallied : answers ≡ c .answers
   pub cause-11-never-arises : Every (λ answer. answer ≡ Refused NoLayer → ⊥) answers
   -- The starting water is the water left and both outflows; the layer has settled by both outflows; the solids are the job's.

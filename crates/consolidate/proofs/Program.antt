@@ -2,97 +2,56 @@
 use Prim.Native.Nat.{ℕ, _+_, _/_, _%_, _≤_, _<_}
 use native.Mathlib.Omega.{arith}
 use borrow.Author.Tests.{lt-ltb, le-ltb, eq-eqb, ne-eqb}
-use lib.Dec.{eqb}
+use lib.Dec.{eqb, ltb, nltb→le}
 use lib.ListN.{length, take, drop, length-append, length-replicate}
 use lib.Seq.{sets, take-all, length-take-le}
-use mathlib.Core.Bool.{Bool, true, false}
+use mathlib.Core.Bool.{Bool, true, false, not}
+use mathlib.Core.Logic.{⊎-elim}
 use mathlib.Core.List.{List, [], _∷_}
-use mathlib.Core.Option.{Option, none, some}
 use mathlib.Core.Path.{_≡_, refl, sym, ap, _∙_}
 use Rattle.answers.specs.Causes.{cause-numbered}
 use Rattle.claims.specs.Described.{described-sound}
-use Rattle.claims.specs.Opened.{opened}
+use Rattle.claims.specs.Causes.{neither, none-holds}
+use Rattle.claims.specs.Opened.{opening-either, opened}
 use Rattle.encoding.specs.Stores.{sets-front}
-use Rattle.job.specs.SoundHeader.{sound-header}
-use Rattle.key.specs.KeyLaws.{opening-done, key-refused, key-leaves}
-use Rattle.opening.specs.Accepted.{header-whole}
+use Rattle.laws.specs.Every.{Every}
+use Rattle.laws.specs.SoundHeader.{kept-header}
+use Rattle.key.specs.KeyLaws.{key-refused, key-leaves}
 use Rattle.numbers.specs.Arrays.{zeros, overlaid}
-use Rattle.rules.specs.Calls.{called}
-use Rattle.rules.specs.Job.{described, headerKept, headerLength}
-use Rattle.rules.specs.Key.{resultOf, runToResult, key}
-use Rattle.rules.specs.Opening.{opening}
-use Rattle.rules.specs.Outcome.{refusalOf}
+use Rattle.rules.specs.Job.{described, headerLength, marked, framingCauses, jobCauses}
+use Rattle.rules.specs.Key.{key}
+use Rattle.rules.specs.Opening.{refusedOpening, opening}
 use Rattle.rules.specs.Program.{digits, refusedLine, inputMost, programOutput}
 use Rattle.rules.specs.Refusals.{refusalNumber}
-use Rattle.rules.specs.Result.{Returned, withheld, resultBytes, resultSize, resultRefusal, result}
-use Rattle.rules.specs.declared.answers.Answer.{Answer}
-use Rattle.rules.specs.declared.answers.Answer.the-variants.{Done, Ran, Refused}
-use Rattle.rules.specs.declared.answers.Call.the-variants.{Run}
-use Rattle.rules.specs.declared.answers.Refusal.{Refusal}
-use Rattle.rules.specs.declared.answers.Stop.{Stop}
-use Rattle.rules.specs.declared.record.Record.{Record}
-
--- ---- the number
-
-module _ (buffer : List ℕ) where
-  -- withheld for a cause, or not
-  abbrev unless : Option Refusal → Returned → Returned
-  unless c x = elim c [ some cause ↦ withheld cause buffer | none ↦ x ]
-
-  unless-few : (cause : Option Refusal) (x : Returned) → x .number ≤ 16 → (unless cause x) .number ≤ 16
-  unfolding withheld
-  unless-few none x h = h
-  unless-few (some cause) x h = cause-numbered cause .1
-
-  result-few : (r : Record) (stop : Stop) (steps : ℕ) → (result r stop steps buffer) .number ≤ 16
-  unfolding result
-  result-few r stop steps =
-      unless-few (resultRefusal r (length buffer)) (record { number = 0; buffer = overlaid (resultBytes r stop steps) buffer }) (omega arith)
-
-  result-of-few : (answer : Answer) (r : Record) → (resultOf answer r buffer) .number ≤ 16
-  unfolding resultOf withheld
-  result-of-few Done r = omega arith
-  result-of-few (Ran stop steps) r = result-few r stop steps
-  result-of-few (Refused cause) r = cause-numbered cause .1
-
-  run-few : (r : Record) (end budget : ℕ) → (runToResult r end budget buffer) .number ≤ 16
-  unfolding runToResult
-  run-few r end budget =
-      let run = called r (Run end budget) in
-      unless-few (resultRefusal r (length buffer)) (resultOf (run .answer) (run .after) buffer) (result-of-few (run .answer) (run .after))
-
-  -- there are sixteen causes
-  pub number-few : (job : List ℕ) → (key job buffer) .number ≤ 16
-  unfolding key
-  number-few job =
-      let opened = opening job in
-      let d = described job in
-      unless-few (refusalOf (opened .answer)) (runToResult (opened .after) (d .header .end) (d .header .budget) buffer) (run-few (opened .after) (d .header .end) (d .header .budget))
+use Rattle.rules.specs.Result.{Returned, withheld, resultSize}
+use Rattle.rules.specs.declared.answers.Answer.the-variants.{Done}
+use Rattle.rules.specs.declared.answers.Answered.{Answered}
 
 -- ---- a job whose key has number 0
 
 module _ (job buffer : List ℕ) (e : (key job buffer) .number ≡ 0) where
   -- opening accepted it
   accepted : (opening job) .answer ≡ Done
-  unfolding withheld
+  unfolding withheld refusedOpening
   accepted =
-      opening-done job
-      (λ cause refused.
+      ⊎-elim
+      (λ (cause, is).
       let (numbered, _) = cause-numbered cause in
-      let same : refusalNumber cause ≡ 0 = key-refused job buffer cause refused .0 ∙ e in
-      omega arith)
+      let refused = key-refused job buffer cause (ap (λ (a : Answered). a .answer) is) in
+      let same : refusalNumber cause ≡ 0 = sym (ap (λ (x : Returned). x .number) refused) ∙ e in
+      absurd (omega arith))
+      (λ done. done) (opening-either job)
 
   -- it has a whole header
   pub whole : headerLength ≤ length job
-  whole = header-whole job accepted
+  unfolding jobCauses framingCauses Every
+  whole =
+      let short = ltb (length job) headerLength in
+      nltb→le (length job) headerLength (neither short (not (marked job)) (none-holds (jobCauses job) (opened job accepted .no-cause) .0) .0)
 
   -- which says at most 128 elements
   pub elements-few : (described job) .header .elements ≤ 128
-  unfolding headerKept
-  elements-few =
-      let d = described job in
-      sound-header d.header.top d.header.bottom d.header.elements (d .header .«compressibility_points») (d .header .«conductivity_points») (d .header .«table_points») d.header.start d.header.gravity
-      (described-sound job (opened job accepted .no-cause) .header) .elements-kept .most
+  elements-few = kept-header ((described job) .header) (described-sound job (opened job accepted .no-cause) .header) .elements-kept .most
 
   -- whose result is no longer than the longest
   pub size-few : resultSize ((described job) .header .elements) ≤ 5_176

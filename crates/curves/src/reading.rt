@@ -3,7 +3,7 @@ ghost use mathlib.Core.Path.{_≡_};
 ghost use Prim.Native.Nat.{ℕ, _+_, _≤_, _<_};
 ghost use Rattle.curves.specs.Smooth.{Smooth};
 ghost use Rattle.numbers.specs.Interpolation.{distance};
-ghost use Rattle.rules.specs.Curve.{point, points, spans, interpolated, curveAt, valueOf};
+ghost use Rattle.rules.specs.Curve.{point, points, spans, interpolated, curveAt, isOn, valueOf};
 ghost use Rattle.rules.specs.Quantities.{stressLimits, voidLimits};
 use rules::quantities::CurveValue;
 
@@ -86,5 +86,15 @@ pub fn value_of(value: CurveValue) -> u64
     match value {
         CurveValue::On(on) => on,
         CurveValue::Off => 0,
+    }
+}
+
+// Whether it is on the curve.
+pub fn is_on(value: CurveValue) -> bool
+    ensures { λ r. ⌜ r ≡ isOn value ⌝ }
+{
+    match value {
+        CurveValue::On(_) => true,
+        CurveValue::Off => false,
     }
 }

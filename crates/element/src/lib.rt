@@ -1,14 +1,18 @@
 // One element: what is read of it, and the flows through its faces.
 ghost use lib.IntN.{ℤ, pos, negℤ, _*ℤ_};
+ghost use mathlib.Core.Bool.{true};
 ghost use mathlib.Core.Path.{_≡_};
-ghost use Prim.Native.Nat.{_≤_, _<_};
+ghost use Prim.Native.Nat.{_+_, _≤_, _<_};
 ghost use Rattle.element.specs.Elements.{elementOf, mostBurden, mostExcess, mostDifference, mostResistance, mostFaceResistance};
 ghost use Rattle.laws.specs.Outflow.{HeldWithin};
 ghost use Rattle.numbers.specs.Interval.{Within};
 ghost use Rattle.numbers.specs.Rounding.{cut};
-ghost use Rattle.rules.specs.Layer.{voidRatio, buoyantWeight, sensitivity, excessUnder, resistanceWith};
+ghost use Rattle.rules.specs.Curve.{points, compressibilitySound};
+ghost use Rattle.rules.specs.Layer.{voidRatio, effectiveStress, buoyantWeight, sensitivity, excessUnder, resistanceWith};
 ghost use Rattle.rules.specs.Step.{outward};
-ghost use Rattle.rules.specs.Quantities.{stressLimits, conductivityLimits, solidsLimits, waterLimits, stepLimits, gravityLimits};
+ghost use Rattle.rules.specs.Quantities.{stressLimits, conductivityLimits, solidsLimits, waterLimits, stepLimits, gravityLimits, pressure};
+use curves::reading;
+use curves::reading::Found;
 use rules::quantities::Face;
 use rules::quantities::Pressure;
 
@@ -18,6 +22,23 @@ pub fn void_ratio(solids: u64, water: u64) -> u64
     ensures { λ r. ⌜ r ≡ voidRatio solids water ⌝ }
 {
     numbers::floor(water * 100_000_000, solids)
+}
+
+// The effective stress, read at the element's void ratio, whatever segment the hint names.
+pub fn effective_stress<'a>(
+    solids: u64,
+    water: u64,
+    m: usize,
+    void: &'a [u64; 64],
+    stress: &'a [u64; 64],
+    hint: usize,
+) -> Found
+    requires { ⌜ (0 < solids) × (water ≤ waterLimits .most) ⌝ }
+    requires { ⌜ (2 ≤ m) × (m ≤ 64) ⌝ }
+    requires { ⌜ compressibilitySound (points m (now void) (now stress)) ≡ true ⌝ }
+    ensures { λ r. ⌜ (r .value ≡ effectiveStress (points m (now (void .entry)) (now (stress .entry))) solids water) × (r .segment + 1 < m) ⌝ }
+{
+    reading::read(m, void, stress, void_ratio(solids, water), hint)
 }
 
 // b, with specific gravity in thousandths.
@@ -47,12 +68,13 @@ pub fn sensitivity(solids: u64) -> u64
 }
 
 // p, from the load, the burden and the effective stress.
-pub fn excess_pressure(load: i64, burden: u64, stress: u64) -> i64
-    requires { ⌜ Within load (stressLimits .most) ⌝ }
+pub fn excess_pressure(load: Pressure, burden: u64, stress: u64) -> Pressure
+    requires { ⌜ Within (load .0) (stressLimits .most) ⌝ }
     requires { ⌜ (burden ≤ mostBurden) × (stress ≤ stressLimits .most) ⌝ }
-    ensures { λ r. ⌜ r ≡ excessUnder load burden stress ⌝ }
+    ensures { λ r. ⌜ r ≡ pressure (excessUnder (load .0) burden stress) ⌝ }
 {
-    load + burden as i64 - stress as i64
+    let excess = load.0 + burden as i64 - stress as i64;
+    Pressure(excess)
 }
 
 // The flow of t seconds over a pressure difference through a resistance, cut toward zero.

@@ -1,14 +1,16 @@
 // The balance of water: what was there is what is left and what flowed out.
-ghost use lib.IntN.{pos, _+ℤ_};
+ghost use lib.IntN.{pos, _+ℤ_, _-ℤ_};
 ghost use lib.ListN.{getD};
 ghost use mathlib.Core.Path.{_≡_};
-ghost use Prim.Native.Nat.{ℕ, _≤_, _<_};
+ghost use Prim.Native.Nat.{ℕ, _*_, _≤_, _<_};
 ghost use Rattle.numbers.specs.Arrays.{firstPlaces};
 ghost use Rattle.numbers.specs.Integers.{eqℤ};
 ghost use Rattle.numbers.specs.Interval.{Within};
 ghost use Rattle.numbers.specs.Sums.{sum};
-ghost use Rattle.rules.specs.Quantities.{clockLimits, waterLimits, startingWaterLimits};
+ghost use Rattle.rules.specs.Quantities.{clockLimits, waterLimits, startingWaterLimits, outflowRate};
 ghost use Rattle.rules.specs.Record.{outflowSound};
+use rules::quantities::Clock;
+use rules::quantities::Outflow;
 
 // All water of the first n elements.
 pub fn total_water(n: usize, water: &[u64; 128]) -> u64
@@ -25,20 +27,28 @@ pub fn total_water(n: usize, water: &[u64; 128]) -> u64
     total
 }
 
-// Whether an outflow keeps its bound.
-pub fn outflow_sound(outflow: i64, clock: u64) -> bool
-    requires { ⌜ clock ≤ clockLimits .most ⌝ }
-    ensures { λ r. ⌜ r ≡ outflowSound outflow clock ⌝ }
+// Whether an outflow keeps its bound at a clock within its limits.
+pub fn outflow_sound(outflow: Outflow, clock: Clock) -> bool
+    requires { ⌜ clock .0 ≤ clockLimits .most ⌝ }
+    ensures { λ r. ⌜ r ≡ outflowSound (outflow .0) (clock .0) ⌝ }
 {
-    let most = (2_300_000_000 * clock) as i64;
-    0 - most <= outflow && outflow <= most
+    let most = (Outflow::RATE * clock.0) as i64;
+    0 - most <= outflow.0 && outflow.0 <= most
+}
+
+// The water that is gone: the settlement, where solids stay.
+pub fn settlement(starting: u64, left: u64) -> i64
+    requires { ⌜ (starting ≤ startingWaterLimits .most) × (left ≤ startingWaterLimits .most) ⌝ }
+    ensures { λ r. ⌜ r ≡ pos starting -ℤ pos left ⌝ }
+{
+    starting as i64 - left as i64
 }
 
 // Whether the water balances.
-pub fn balances(starting: u64, left: u64, top_outflow: i64, bottom_outflow: i64) -> bool
+pub fn balances(starting: u64, left: u64, top_outflow: Outflow, bottom_outflow: Outflow) -> bool
     requires { ⌜ (starting ≤ startingWaterLimits .most) × (left ≤ startingWaterLimits .most) ⌝ }
-    requires { ⌜ Within «top_outflow» 6_900_000_000_000_000_000 ⌝ }
-    ensures { λ r. ⌜ r ≡ eqℤ (pos starting) (pos left +ℤ «top_outflow» +ℤ «bottom_outflow») ⌝ }
+    requires { ⌜ Within («top_outflow» .0) (outflowRate * clockLimits .most) ⌝ }
+    ensures { λ r. ⌜ r ≡ eqℤ (pos starting) (pos left +ℤ «top_outflow» .0 +ℤ «bottom_outflow» .0) ⌝ }
 {
-    starting as i64 - left as i64 - top_outflow == bottom_outflow
+    settlement(starting, left) - top_outflow.0 == bottom_outflow.0
 }

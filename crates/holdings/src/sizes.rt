@@ -4,23 +4,21 @@ ghost use Prim.Native.Nat.{_≤_};
 ghost use Rattle.numbers.specs.Arrays.{firstPlaces};
 ghost use Rattle.numbers.specs.Lists.{all};
 ghost use Rattle.rules.specs.Layer.{Site};
-ghost use Rattle.rules.specs.Quantities.{within, from_to_};
+ghost use Rattle.rules.specs.Quantities.{within, limitsOf};
 ghost use Rattle.rules.specs.Record.{sizesSound};
 use crate::faces;
-use rules::quantities;
 use rules::quantities::Face;
 use rules::quantities::Head;
-use rules::quantities::Solids;
-use rules::quantities::Water;
+use rules::quantities::Kind;
 
-// Whether the first n numbers keep limits.
-pub fn all_within(n: usize, least: u64, most: u64, numbers: &[u64; 128]) -> bool
+// Whether the first n numbers keep the limits of a kind.
+pub fn all_within(n: usize, kind: Kind, numbers: &[u64; 128]) -> bool
     requires { ⌜ n ≤ 128 ⌝ }
-    ensures { λ r. ⌜ r ≡ all (within (from least to most)) (firstPlaces n (now (numbers .entry))) ⌝ }
+    ensures { λ r. ⌜ r ≡ all (within (limitsOf kind)) (firstPlaces n (now (numbers .entry))) ⌝ }
 {
     let mut j: usize = 0;
     while j < n {
-        if !quantities::within(least, most, numbers[j]) {
+        if !kind.keeps(numbers[j]) {
             return false;
         }
         j += 1;
@@ -40,10 +38,9 @@ pub fn sizes_sound<'a>(
     requires { ⌜ n ≤ 128 ⌝ }
     ensures { λ r. ⌜ ((site : Site) → site .topLevel ≡ «top_level» .0 → site .bottomLevel ≡ «bottom_level» .0 → site .bottom ≡ bottom → site .solids ≡ firstPlaces n (now (solids .entry)) → r ≡ sizesSound site (firstPlaces n (now (water .entry)))) ⌝ }
 {
-    let level = bottom_level.0;
     top_level.is_level()
         & bottom_level.is_level()
-        & faces::closed_has_no_level(bottom, level)
-        & all_within(n, Solids::LEAST, Solids::MOST, solids)
-        & all_within(n, Water::LEAST, Water::MOST, water)
+        & faces::closed_has_no_level(bottom, bottom_level)
+        & all_within(n, Kind::Solids, solids)
+        & all_within(n, Kind::Water, water)
 }

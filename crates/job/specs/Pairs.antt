@@ -6,7 +6,7 @@ use Rattle.numbers.specs.Arrays.{zeros}
 use Rattle.rules.specs.Job.{Description}
 
 -- they are those of a description
-pub record Pairs (d : Description) (solids water compressibilityStress compressibilityVoid conductivityVoid conductivity tableTime
+pub record Pairs (d : Description) (solids water compressibilityVoid compressibilityStress conductivityVoid conductivity tableTime
     tableLoad : List ℕ) : Type 0 where
   pub solids-held : solids ≡ d.solids
   pub water-held : water ≡ d.water
@@ -18,7 +18,7 @@ pub record Pairs (d : Description) (solids water compressibilityStress compressi
   pub table-load-held : tableLoad ≡ d.tableLoad
 
 -- none is stored yet
-pub record Blank (solids water compressibilityStress compressibilityVoid conductivityVoid conductivity tableTime tableLoad : List ℕ) :
+pub record Blank (solids water compressibilityVoid compressibilityStress conductivityVoid conductivity tableTime tableLoad : List ℕ) :
     Type 0 where
   pub solids-blank : solids ≡ zeros 128
   pub water-blank : water ≡ zeros 128

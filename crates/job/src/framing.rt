@@ -1,19 +1,20 @@
 // The causes 1 to 4, which are tested before a job is read.
 ghost use lib.Dec.{ltb, eqb};
 ghost use lib.ListN.{length};
-ghost use mathlib.Core.Bool.{not, _||_};
+ghost use mathlib.Core.Bool.{true, not, _||_};
 ghost use mathlib.Core.Path.{_≡_};
 ghost use Prim.Native.Nat.{_≤_};
 ghost use Rattle.job.specs.Framing.{framing};
-ghost use Rattle.rules.specs.Job.{described, field, headerKept, headerLength, jobLength, marked};
+ghost use Rattle.rules.specs.Job.{field, headerKept, headerLength, jobLength, marked};
 use crate::fields;
 use crate::fields::HEADER_LENGTH;
 use crate::header;
 use rules::answers::Refusal;
+use rules::job::Header;
 
-// Whether a job may be read, or the cause for which it is refused.
+// The header of a job that may be read, or the cause for which it is refused.
 pub enum Framed {
-    Sound,
+    Sound(Header),
     Refused(Refusal),
 }
 
@@ -33,22 +34,22 @@ pub fn other_version(job: &[u8]) -> bool
 }
 
 // Cause 3.
-pub fn header_outside(job: &[u8]) -> bool
+pub fn header_outside(job: &[u8], header: Header) -> bool
     requires { ⌜ headerLength ≤ length (now job) ⌝ }
-    ensures { λ r. ⌜ r ≡ (not (headerKept (described (now (job .entry)))) || not (eqb (field 2 14 (now (job .entry))) 0)) ⌝ }
+    ensures { λ r. ⌜ r ≡ (not (headerKept header) || not (eqb (field 2 14 (now (job .entry))) 0)) ⌝ }
 {
-    !header::header_kept(job) || fields::field(job, 2, 14) != 0
+    !header::header_kept(header) || fields::field(job, 2, 14) != 0
 }
 
 // Cause 4.
-pub fn wrong_length(job: &[u8]) -> bool
-    requires { ⌜ headerLength ≤ length (now job) ⌝ }
-    ensures { λ r. ⌜ r ≡ not (eqb (length (now (job .entry))) (jobLength (described (now (job .entry))))) ⌝ }
+pub fn wrong_length(job: &[u8], header: Header) -> bool
+    requires { ⌜ headerKept header ≡ true ⌝ }
+    ensures { λ r. ⌜ r ≡ not (eqb (length (now (job .entry))) (jobLength header)) ⌝ }
 {
-    job.len() != header::job_length(job)
+    job.len() != header::job_length(header)
 }
 
-// The first of these causes that holds.
+// The first of these causes that holds, or the header of the job.
 pub fn frame(job: &[u8]) -> Framed
     ensures { λ r. ⌜ r ≡ framing (now (job .entry)) ⌝ }
 {
@@ -58,11 +59,12 @@ pub fn frame(job: &[u8]) -> Framed
     if other_version(job) {
         return Framed::Refused(Refusal::OtherVersion);
     }
-    if header_outside(job) {
+    let header = header::read_header(job);
+    if header_outside(job, header) {
         return Framed::Refused(Refusal::HeaderOutside);
     }
-    if wrong_length(job) {
+    if wrong_length(job, header) {
         return Framed::Refused(Refusal::WrongLength);
     }
-    Framed::Sound
+    Framed::Sound(header)
 }

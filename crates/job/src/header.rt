@@ -1,5 +1,6 @@
-// The tests of a job's first 16 bytes, and its length by its counts.
+// A job's header: what it says, its tests, and the job's length by its counts.
 ghost use lib.ListN.{length};
+ghost use mathlib.Core.Bool.{true};
 ghost use mathlib.Core.Path.{_≡_};
 ghost use Prim.Native.Nat.{_≤_};
 ghost use Rattle.rules.specs.Job.{described, headerKept, headerLength, jobLength, marked};
@@ -66,12 +67,10 @@ pub fn read_header(job: &[u8]) -> Header
     }
 }
 
-// Whether those of a job keep their limits.
-pub fn header_kept(job: &[u8]) -> bool
-    requires { ⌜ headerLength ≤ length (now job) ⌝ }
-    ensures { λ r. ⌜ r ≡ headerKept (described (now (job .entry))) ⌝ }
+// Cause 3, of a header: whether its numbers keep their limits.
+pub fn header_kept(header: Header) -> bool
+    ensures { λ r. ⌜ r ≡ headerKept header ⌝ }
 {
-    let header = read_header(job);
     header_sound(
         header.top,
         header.bottom,
@@ -84,15 +83,15 @@ pub fn header_kept(job: &[u8]) -> bool
     )
 }
 
-// The length that a job's four counts ask for.
-pub fn job_length(job: &[u8]) -> usize
-    requires { ⌜ headerLength ≤ length (now job) ⌝ }
-    ensures { λ r. ⌜ r ≡ jobLength (described (now (job .entry))) ⌝ }
+// The length that the four counts of a header ask for.
+pub fn job_length(header: Header) -> usize
+    requires { ⌜ headerKept header ≡ true ⌝ }
+    ensures { λ r. ⌜ r ≡ jobLength header ⌝ }
 {
-    let elements = fields::byte(job, 7) as usize;
-    let compressibility_points = fields::byte(job, 8) as usize;
-    let conductivity_points = fields::byte(job, 9) as usize;
-    let table_points = fields::byte(job, 10) as usize;
     HEADER_LENGTH
-        + PAIR_LENGTH * (elements + compressibility_points + conductivity_points + table_points)
+        + PAIR_LENGTH
+            * (header.elements
+                + header.compressibility_points
+                + header.conductivity_points
+                + header.table_points)
 }

@@ -1,5 +1,5 @@
-// The job's bytes: their fields, the causes 1 to 4, and what they describe.
-pub mod description;
+// The job's bytes: their fields, the causes 1 to 4, and their pairs.
 pub mod fields;
 pub mod framing;
 pub mod header;
+pub mod pairs;

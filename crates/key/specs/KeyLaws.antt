@@ -1,98 +1,75 @@
--- The key by what opening answers, and by the room for a result; what it leaves of the buffer.
+-- The key by what opening answers, and by the room for a result; the numbers that it returns, and what it leaves of the buffer.
 use Prim.Native.Nat.{ℕ, _≤_, _<_}
 use native.Mathlib.Omega.{arith}
-use lib.IntN.{ℤ}
+use borrow.Author.Tests.{lt-ltb, le-ltb}
+use lib.Dec.{ltb, lit≤}
 use lib.ListN.{length, take}
 use lib.Seq.{take-append-seam}
-use mathlib.Core.Bool.{true, _&&_}
-use mathlib.Core.List.{List}
-use mathlib.Core.Logic.{⊎-elim}
+use mathlib.Core.Bool.{Bool, true, false, _&&_}
+use mathlib.Core.List.{List, [], _∷_}
+use mathlib.Core.Logic.{_⊎_, inl, inr, ⊎-elim}
 use mathlib.Core.Option.{Option, none, some}
-use mathlib.Core.Path.{_≡_, refl, sym, ap, _∙_}
+use mathlib.Core.Path.{_≡_, refl, sym, ap, subst, _∙_}
+use Rattle.claims.specs.Causes.{cause-tried}
 use Rattle.claims.specs.Described.{described-sound}
 use Rattle.claims.specs.Opened.{opening-either, opened, opened-record}
 use Rattle.claims.specs.Stands.{stands-layer}
-use Rattle.key.specs.Layers.{called-layer, called-elements}
-use Rattle.numbers.specs.Arrays.{firstPlaces, overlaid}
-use Rattle.numbers.specs.Filled.{first-length, overlaid-take}
+use Rattle.key.specs.Layers.{ended-elements}
+use Rattle.key.specs.Water.{waterRun}
+use Rattle.laws.specs.Every.{Every}
+use Rattle.lent.specs.Standing.{counted}
+use Rattle.numbers.specs.Arrays.{zeros, overlaid}
+use Rattle.numbers.specs.Filled.{first-length, length-zeros, length-filled, length-overlaid, overlaid-take}
 use Rattle.numbers.specs.Searches.{passed, both}
-use Rattle.result.specs.Fields.{layerWith, othersOf}
-use Rattle.result.specs.ResultLaws.{result-length, refused-for-room, not-refused, result-written, number-is, buffer-is}
+use Rattle.result.specs.ResultLaws.{result-length}
 use Rattle.rules.proofs.Limits.{within-parts}
-use Rattle.rules.specs.Calls.{called}
-use Rattle.rules.specs.Job.{described, describedRecord, jobSite, givenWater, fieldsSound}
-use Rattle.rules.specs.Key.{resultOf, runToResult, key}
+use Rattle.rules.specs.Calls.{endedRun}
+use Rattle.rules.specs.Job.{firsts, seconds, described, jobSite, givenWater, fieldsSound, framingCauses, describedCauses, jobCauses}
+use Rattle.rules.specs.Key.{runToResult, key}
 use Rattle.rules.specs.Layer.{Site, State}
 use Rattle.rules.specs.Opening.{openedRecord, refusedOpening, descriptionWater, opening}
 use Rattle.rules.specs.Outcome.{refusalOf}
 use Rattle.rules.specs.Quantities.{within, clockLimits, budgetLimits}
-use Rattle.rules.specs.Record.{recordSite, recordState, withState, sizesSound, isLayer}
-use Rattle.rules.specs.Refusals.{firstCause, refusalNumber}
-use Rattle.rules.specs.Result.{Returned, withheld, resultBytes, resultSize, resultRefusal, result}
+use Rattle.rules.specs.Record.{recordSite, recordState, sizesSound, isLayer}
+use Rattle.rules.specs.Refusals.{Trial, firstCause, refusalNumber}
+use Rattle.rules.specs.Result.{Returned, withheld, resultBytes, resultSize}
 use Rattle.rules.specs.Start.{openingState}
 use Rattle.rules.specs.declared.answers.Answer.{Answer}
-use Rattle.rules.specs.declared.answers.Answer.the-variants.{Done, Ran, Refused}
+use Rattle.rules.specs.declared.answers.Answer.the-variants.{Done, Refused}
 use Rattle.rules.specs.declared.answers.Answered.{Answered}
-use Rattle.rules.specs.declared.answers.Call.the-variants.{Run}
 use Rattle.rules.specs.declared.answers.Refusal.{Refusal}
 use Rattle.rules.specs.declared.answers.Refusal.the-variants.{StartOffCurve, ShortBuffer}
-use Rattle.rules.specs.declared.answers.Stop.{Stop}
 use Rattle.rules.specs.declared.record.Record.{Record}
-use Rattle.run.specs.Loop.{stateIn}
 
 -- ---- the room for a layer's result
 
-module _ (r : Record) (end budget : ℕ) (buffer : List ℕ) (is : isLayer r ≡ true) where
-  abbrev run : Answered
-  run = called r (Run end budget)
+module _ (r : Record) (end budget : ℕ) (buffer : List ℕ) where
+  abbrev n : ℕ
+  n = r .layer .frame .elements
 
-  by-refusal : (cause : Option Refusal) → resultRefusal r (length buffer) ≡ cause →
-      runToResult r end budget buffer ≡ elim cause [ some cause ↦ withheld cause buffer | none ↦ resultOf (run .answer) (run .after) buffer ]
-  unfolding runToResult
-  by-refusal cause e =
-      ap (λ (c : Option Refusal). elim c as (λ _. Returned) [
-        | some x ↦ withheld x buffer
-        | none ↦ resultOf (run .answer) (run .after) buffer
-      ]) e
+  abbrev pub written : Returned
+  written =
+      let run = endedRun r end budget in
+      record { number = 0; buffer = overlaid (resultBytes (run .after) (run .stop) (run .steps)) buffer }
 
-  -- too little room: the buffer is left
-  pub no-room : length buffer < resultSize r.elements → runToResult r end budget buffer ≡ withheld ShortBuffer buffer
-  no-room h = by-refusal (some ShortBuffer) (refused-for-room r (length buffer) is h)
+  by-room : (short : Bool) → ltb (length buffer) (resultSize n) ≡ short →
+      (runToResult r end budget buffer ≡ elim short [ true ↦ withheld ShortBuffer buffer | false ↦ written ]) ×
+      (waterRun r end budget buffer ≡ elim short [ true ↦ r .layer .water | false ↦ (endedRun r end budget) .after .layer .water ])
+  unfolding runToResult waterRun
+  by-room short e = (
+    ap (λ (b : Bool). elim b as (λ _. Returned) [ true ↦ withheld ShortBuffer buffer | false ↦ written ]) e,
+    ap (λ (b : Bool). elim b as (λ _. List ℕ) [ true ↦ r .layer .water | false ↦ (endedRun r end budget) .after .layer .water ]) e,
+  )
 
-  -- room enough: what the run answers decides
-  module _ (room : resultSize r.elements ≤ length buffer) (a : Answered) (runs : a ≡ run) where
-    pub by-run : (answer : Answer) → a .answer ≡ answer → runToResult r end budget buffer ≡ resultOf answer (a .after) buffer
-    by-run answer e = by-refusal none (not-refused r (length buffer) is room) ∙ rw (← runs, e) refl
+  -- too little room: buffer and water are left
+  pub no-room : length buffer < resultSize n → (runToResult r end budget buffer ≡ withheld ShortBuffer buffer) × (waterRun r end budget buffer ≡ r .layer .water)
+  no-room h = by-room true (lt-ltb _ _ h)
 
-    -- the record after it has a result, for which there is room
-    pub ran-layer : isLayer (a .after) ≡ true
-    ran-layer = rw runs (called-layer r is (Run end budget))
-
-    pub ran-room : resultSize (a .after .elements) ≤ length buffer
-    ran-room = rw (runs, called-elements r is (Run end budget)) room
-
-    pub ran-written : (stop : Stop) (steps : ℕ) → a .answer ≡ Ran stop steps →
-        runToResult r end budget buffer ≡ record { number = 0; buffer = overlaid (resultBytes (a .after) stop steps) buffer }
-    unfolding resultOf
-    ran-written stop steps e = by-run (Ran stop steps) e ∙ result-written (a .after) stop steps buffer ran-layer ran-room
-
--- the record after a run, by its fields
-pub ran-fields : (r : Record) (water : List ℕ) (load : ℤ) (clock : ℕ) (topOutflow bottomOutflow : ℤ) →
-    water ≡ overlaid (firstPlaces r.elements water) r.water →
-    layerWith r.elements (r .«compressibility_points») r.gravity (r .«top_level») r.solids water (r .«compressibility_stress»)
-    (r .«compressibility_void») load clock topOutflow bottomOutflow (r .«starting_water») (othersOf r) ≡
-    withState r (stateIn r.elements water load clock topOutflow bottomOutflow)
-unfolding withState
-ran-fields r water load clock topOutflow bottomOutflow kept =
-    ap (λ (w : List ℕ). layerWith r.elements (r .«compressibility_points») r.gravity (r .«top_level») r.solids w (r .«compressibility_stress»)
-    (r .«compressibility_void») load clock topOutflow bottomOutflow (r .«starting_water») (othersOf r)) kept
+  -- room enough: the result is written, and the water is the run's
+  pub room-enough : resultSize n ≤ length buffer → (runToResult r end budget buffer ≡ written) × (waterRun r end budget buffer ≡ (endedRun r end budget) .after .layer .water)
+  room-enough h = by-room false (le-ltb _ _ h)
 
 -- ---- what opening answers
-
--- opening is done where it does not refuse
-pub opening-done : (job : List ℕ) → ((cause : Refusal) → (opening job) .answer ≡ Refused cause → ⊥) → (opening job) .answer ≡ Done
-unfolding refusedOpening
-opening-done job not = ⊎-elim (λ refused. absurd (not (refused .0) (ap (λ (a : Answered). a .answer) (refused .1)))) (λ done. done) (opening-either job)
 
 module _ (job buffer : List ℕ) where
   by-answer : (answer : Answer) → (opening job) .answer ≡ answer →
@@ -108,33 +85,44 @@ module _ (job buffer : List ℕ) where
       ]) e
 
   -- a refused job
-  pub key-refused : (cause : Refusal) → (opening job) .answer ≡ Refused cause →
-      (refusalNumber cause ≡ (key job buffer) .number) × (buffer ≡ (key job buffer) .buffer)
-  unfolding refusalOf withheld
-  key-refused cause e = let k = by-answer (Refused cause) e in (number-is k, buffer-is k)
+  pub key-refused : (cause : Refusal) → (opening job) .answer ≡ Refused cause → key job buffer ≡ withheld cause buffer
+  unfolding refusalOf
+  key-refused cause e = by-answer (Refused cause) e
 
 -- ---- a job that opening accepts
 
 module _ (job : List ℕ) (done : (opening job) .answer ≡ Done) where
   -- its record is a layer whose clock is 0
-  opened-layer : isLayer ((opening job) .after) ≡ true
+  pub opened-layer : isLayer ((opening job) .after) ≡ true
   opened-layer = stands-layer _ _ _ _ (opened-record job done)
 
-  opened-clock : (opening job) .after .clock .0 ≡ 0
+  pub opened-clock : (opening job) .after .layer .progress .clock .0 ≡ 0
   unfolding recordState openingState
   opened-clock = ap (λ (s : State). s .clock) (opened-record job done .state-is)
 
   -- and which has as many elements as the job describes
-  opened-elements : (opening job) .after .elements ≡ (described job) .header .elements
-  unfolding recordSite jobSite describedRecord
+  opened-elements : (opening job) .after .layer .frame .elements ≡ (described job) .header .elements
+  unfolding recordSite jobSite
   opened-elements =
       let d = described job in
-      let r = (opening job) .after in
-      sym (first-length r.elements r.solids) ∙ ap (λ (site : Site). length (site .solids)) (opened-record job done .site-is) ∙
-      first-length d.header.elements d.solids
+      let l = (opening job) .after .layer in
+      sym (first-length (l .frame .elements) (l .solids)) ∙ ap (λ (site : Site). length (site .solids)) (opened-record job done .site-is) ∙
+      first-length (d .header .elements) (d .solids)
+
+  -- its array of water is whole
+  pub opened-long : length ((opening job) .after .layer .water) ≡ 128
+  unfolding openedRecord openingState jobSite described seconds firsts
+  opened-long =
+      let d = described job in
+      let o = opened job done in
+      let n = d .header .elements in
+      let few : n ≤ 128 = subst (λ (k : ℕ). k ≤ 128) opened-elements (counted ((opening job) .after) opened-layer .1) in
+      let size : length (o .water) ≡ n = opened-record job done .kept .size ∙ first-length n (d .solids) in
+      let whole : length (d .water) ≡ 128 = length-filled (zeros 128) n _ (omega (arith, length-zeros 128)) ∙ length-zeros 128 in
+      ap (λ (r : Record). length (r .layer .water)) (o .left) ∙ length-overlaid (o .water) (d .water) (omega arith) ∙ whole
 
   -- its end and budget keep their limits
-  end-and-budget : ((described job) .header .end ≤ clockLimits .most) × ((described job) .header .budget ≤ budgetLimits .most)
+  pub end-and-budget : ((described job) .header .end ≤ clockLimits .most) × ((described job) .header .budget ≤ budgetLimits .most)
   unfolding fieldsSound
   end-and-budget =
       let d = described job in
@@ -146,16 +134,55 @@ module _ (job : List ℕ) (done : (opening job) .answer ≡ Done) where
       let (_, short) = both sizes end first2 in
       (within-parts clockLimits (d .header .end) short .1, within-parts budgetLimits (d .header .budget) few .1)
 
-  module _ (o : Record) (opens : o ≡ (opening job) .after) (end budget : ℕ) (ends : end ≡ (described job) .header .end)
-      (lasts : budget ≡ (described job) .header .budget) where
-    -- it can be run
-    pub can-run : (isLayer o ≡ true) × ((o .clock .0 ≤ end) × (end ≤ clockLimits .most) × (budget ≤ budgetLimits .most))
-    can-run = rw (opens, ends, lasts) (opened-layer, (rw opened-clock (omega arith), end-and-budget .0, end-and-budget .1))
+  -- its key is the result of a run to its end within its budget
+  pub key-run : (buffer : List ℕ) →
+      key job buffer ≡ runToResult ((opening job) .after) ((described job) .header .end) ((described job) .header .budget) buffer
+  unfolding refusalOf
+  key-run buffer = by-answer job buffer Done done
 
-    -- its key is the result of a run to its end within its budget
-    pub key-run : (buffer : List ℕ) → key job buffer ≡ runToResult o end budget buffer
-    unfolding refusalOf
-    key-run buffer = rw (opens, ends, lasts) (by-answer job buffer Done done)
+-- ---- the numbers that the key returns
+
+-- the number of each cause that opening tests is 9 at most
+AtMost9 : Refusal → Type 0
+AtMost9 cause = refusalNumber cause ≤ 9
+
+causes-numbered : (job : List ℕ) → Every (λ trial. AtMost9 (trial .cause)) (jobCauses job)
+unfolding jobCauses framingCauses describedCauses Every AtMost9 refusalNumber
+causes-numbered job = (lit≤ tt, (lit≤ tt, (lit≤ tt, (lit≤ tt, (lit≤ tt, (lit≤ tt, (lit≤ tt, (lit≤ tt, tt))))))))
+
+opening-numbered : (job : List ℕ) → ((cause : Refusal) × ((opening job ≡ refusedOpening cause) × AtMost9 cause)) ⊎ ((opening job) .answer ≡ Done)
+unfolding opening AtMost9 refusalNumber
+opening-numbered job = found (firstCause (jobCauses job)) refl (descriptionWater (described job))
+  where
+    found : (first : Option Refusal) → firstCause (jobCauses job) ≡ first → (water : Option (List ℕ)) →
+        let a : Answered = elim first as (λ _. Answered) [
+          | some cause ↦ refusedOpening cause
+          | none ↦ elim water as (λ _. Answered) [
+            | none ↦ refusedOpening StartOffCurve
+            | some water ↦ record { answer = Done; after = openedRecord (described job) water }
+          ]
+        ] in
+        ((cause : Refusal) × ((a ≡ refusedOpening cause) × AtMost9 cause)) ⊎ (a .answer ≡ Done)
+    found (some cause) p water = inl (cause, (refl, cause-tried AtMost9 (jobCauses job) cause (causes-numbered job) p))
+    found none p none = inl (StartOffCurve, (refl, lit≤ tt))
+    found none p (some water) = inr refl
+
+run-number : (r : Record) (end budget : ℕ) (buffer : List ℕ) → (runToResult r end budget buffer) .number ≤ 10
+unfolding runToResult withheld refusalNumber
+run-number r end budget buffer = go (ltb (length buffer) (resultSize (r .layer .frame .elements)))
+  where
+    go : (short : Bool) → (elim short as (λ _. Returned) [ true ↦ withheld ShortBuffer buffer | false ↦ written r end budget buffer ]) .number ≤ 10
+    go true = lit≤ tt
+    go false = lit≤ tt
+
+-- The key returns 0, or the number of one of the causes 1 to 10.
+pub key-numbers : (job buffer : List ℕ) → (key job buffer) .number ≤ 10
+unfolding withheld refusedOpening AtMost9
+key-numbers job buffer =
+    ⊎-elim
+    (λ (cause, (is, small)). rw (key-refused job buffer cause (ap (λ (a : Answered). a .answer) is)) (omega arith))
+    (λ done. rw (key-run job done buffer) (run-number ((opening job) .after) ((described job) .header .end) ((described job) .header .budget) buffer))
+    (opening-numbered job)
 
 -- ---- what is left of the buffer
 
@@ -168,12 +195,6 @@ module _ (buffer : List ℕ) (n : ℕ) where
   leaves-whole : (number : ℕ) → Leaves buffer n (record { number = number; buffer = buffer })
   leaves-whole number = record { withheld-whole = λ _. refl; past = sym (overlaid-take n buffer) }
 
-  leaves-unless : (cause : Option Refusal) (x : Returned) → Leaves buffer n x →
-      Leaves buffer n (elim cause [ some cause ↦ withheld cause buffer | none ↦ x ])
-  unfolding withheld
-  leaves-unless none x h = h
-  leaves-unless (some cause) x h = leaves-whole (refusalNumber cause)
-
   leaves-front : (front : List ℕ) → length front ≡ n → Leaves buffer n (record { number = 0; buffer = overlaid front buffer })
   unfolding overlaid
   leaves-front front h = record {
@@ -181,39 +202,26 @@ module _ (buffer : List ℕ) (n : ℕ) where
     past = rw (← h, take-append-seam front _) refl;
   }
 
-  leaves-result : (r : Record) (stop : Stop) (steps : ℕ) → resultSize r.elements ≡ n → Leaves buffer n (result r stop steps buffer)
-  unfolding result
-  leaves-result r stop steps h =
-      leaves-unless (resultRefusal r (length buffer)) _ (leaves-front (resultBytes r stop steps) (result-length r stop steps ∙ h))
-
-  leaves-result-of : (answer : Answer) (r : Record) → resultSize r.elements ≡ n → Leaves buffer n (resultOf answer r buffer)
-  unfolding resultOf withheld
-  leaves-result-of Done r h = leaves-whole 0
-  leaves-result-of (Ran stop steps) r h = leaves-result r stop steps h
-  leaves-result-of (Refused cause) r h = leaves-whole (refusalNumber cause)
-
-  leaves-run : (r : Record) (end budget : ℕ) → isLayer r ≡ true → resultSize r.elements ≡ n → Leaves buffer n (runToResult r end budget buffer)
-  unfolding runToResult
-  leaves-run r end budget is h =
-      let run = called r (Run end budget) in
-      leaves-unless (resultRefusal r (length buffer)) _
-      (leaves-result-of (run .answer) (run .after) (ap resultSize (called-elements r is (Run end budget)) ∙ h))
+  leaves-run : (r : Record) (end budget : ℕ) → resultSize (r .layer .frame .elements) ≡ n → Leaves buffer n (runToResult r end budget buffer)
+  unfolding runToResult withheld
+  leaves-run r end budget h = go (ltb (length buffer) (resultSize (r .layer .frame .elements)))
+    where
+      go : (short : Bool) → Leaves buffer n (elim short [ true ↦ withheld ShortBuffer buffer | false ↦ written r end budget buffer ])
+      go true = leaves-whole (refusalNumber ShortBuffer)
+      go false =
+          let run = endedRun r end budget in
+          leaves-front (resultBytes (run .after) (run .stop) (run .steps))
+          (result-length (run .after) (run .stop) (run .steps) ∙ ap resultSize (ended-elements r end budget) ∙ h)
 
 module _ (job buffer : List ℕ) where
   abbrev size : ℕ
   size = resultSize ((described job) .header .elements)
 
-  leaves-refused : (cause : Refusal) → (opening job) .answer ≡ Refused cause → Leaves buffer size (key job buffer)
-  unfolding refusalOf withheld
-  leaves-refused cause e = rw (by-answer job buffer (Refused cause) e) (leaves-whole buffer size (refusalNumber cause))
-
-  leaves-run-result : (opening job) .answer ≡ Done → Leaves buffer size (key job buffer)
-  leaves-run-result done =
-      rw (key-run job done _ refl _ _ refl refl buffer)
-      (leaves-run buffer size _ _ _ (opened-layer job done) (ap resultSize (opened-elements job done)))
-
   -- the key leaves all past its result
   pub key-leaves : Leaves buffer size (key job buffer)
-  unfolding refusedOpening
+  unfolding refusedOpening withheld
   key-leaves =
-      ⊎-elim (λ refused. leaves-refused (refused .0) (ap (λ (a : Answered). a .answer) (refused .1))) leaves-run-result (opening-either job)
+      ⊎-elim
+      (λ (cause, is). rw (key-refused job buffer cause (ap (λ (a : Answered). a .answer) is)) (leaves-whole buffer size (refusalNumber cause)))
+      (λ done. rw (key-run job done buffer) (leaves-run buffer size _ _ _ (ap resultSize (opened-elements job done))))
+      (opening-either job)

@@ -1,32 +1,30 @@
--- A call on a layer leaves a layer of as many elements.
+-- A run on a layer leaves a layer of as many elements.
+use Prim.Native.Nat.{ℕ, _≤_}
 use native.Mathlib.Omega.{arith}
 use mathlib.Core.Bool.{true}
 use mathlib.Core.List.{List, [], _∷_}
-use mathlib.Core.Path.{_≡_, refl, sym, ap, _∙_}
-use Rattle.calls.specs.CallLaws.{on-layer}
-use Rattle.calls.specs.Standing.{state-is}
-use Rattle.claims.specs.Events.{call-accepted}
+use mathlib.Core.Path.{_≡_, refl, sym, _∙_}
+use Rattle.claims.specs.Events.{run-accepted}
 use Rattle.claims.specs.Fixed.{sized-dry}
 use Rattle.claims.specs.Stands.{Stands, site-sound, stands-layer, stands-after}
+use Rattle.laws.specs.SiteFacts.{site-parts}
+use Rattle.lent.specs.Standing.{state-is}
 use Rattle.numbers.specs.Filled.{first-length}
 use Rattle.numbers.specs.Searches.{passed, is-true, both}
 use Rattle.rules.proofs.Limits.{inside}
-use Rattle.rules.specs.Calls.{called}
-use Rattle.rules.specs.Outcome.{outcome}
-use Rattle.rules.specs.Quantities.{startingWaterLimits}
+use Rattle.rules.specs.Calls.{endedRun}
+use Rattle.rules.specs.Quantities.{clockLimits, startingWaterLimits}
 use Rattle.rules.specs.Record.{recordSite, recordState, withState, withEvents, siteSound, stateSound, isLayer}
-use Rattle.rules.specs.Run.{Event}
-use Rattle.rules.specs.declared.answers.Answered.{Answered}
-use Rattle.rules.specs.declared.answers.Call.{Call}
+use Rattle.rules.specs.Run.{Event, running}
 use Rattle.rules.specs.declared.record.Record.{Record}
-use Rattle.sound.specs.SiteFacts.{site-parts}
 
 -- a layer stands at its own state
-layer-stands : (r : Record) → isLayer r ≡ true → Stands (recordSite r) (r .«starting_water») (recordState r) r
+layer-stands : (r : Record) → isLayer r ≡ true → Stands (recordSite r) (r .layer .frame .«starting_water») (recordState r) r
 unfolding isLayer recordSite recordState
 layer-stands r is =
     let p = site-parts r (is-true (siteSound r) (both (siteSound r) (stateSound r) (passed is) .0)) in
     let f = state-is r is in
+    let n = r .layer .frame .elements in
     record {
       fixed = record {
         header = p .header;
@@ -36,13 +34,13 @@ layer-stands r is =
         table = p .table;
         top = p .top;
         bottom = p .bottom;
-        starting = inside startingWaterLimits (r .«starting_water») (omega arith) (f .starting-most);
+        starting = inside startingWaterLimits (r .layer .frame .«starting_water») (omega arith) (f .starting-most);
       };
       site-is = refl;
       state-is = refl;
       starting-is = refl;
       kept = record {
-        size = first-length r.elements r.water ∙ sym (first-length r.elements r.solids);
+        size = first-length n (r .layer .water) ∙ sym (first-length n (r .layer .solids));
         on-curve = passed (f .on-curve);
         load = f .load-between;
         clock = f .clock-most;
@@ -53,25 +51,23 @@ layer-stands r is =
     }
 
 -- events leave the number of elements
-elements-after : (r : Record) (es : List Event) → (withEvents r es) .elements ≡ r.elements
+elements-after : (r : Record) (es : List Event) → (withEvents r es) .layer .frame .elements ≡ r .layer .frame .elements
 unfolding withEvents withState
 elements-after r [] = refl
 elements-after r (e ∷ rest) = refl
 
-module _ (r : Record) (is : isLayer r ≡ true) where
-  -- the record after a call is that after its events
-  after-is : (call : Call) → (called r call) .after ≡ withEvents r ((outcome (recordSite r) (recordState r) call) .events)
-  after-is call = ap (λ (a : Answered). a .after) (on-layer r call (outcome (recordSite r) (recordState r) call) is refl)
-
-  pub called-layer : (call : Call) → isLayer ((called r call) .after) ≡ true
-  called-layer call =
+module _ (r : Record) (end budget : ℕ) where
+  pub ended-layer : isLayer r ≡ true → r .layer .progress .clock .0 ≤ end → end ≤ clockLimits .most → isLayer ((endedRun r end budget) .after) ≡ true
+  unfolding endedRun recordState
+  ended-layer is early late =
       let site = recordSite r in
       let s = recordState r in
-      let start = r .«starting_water» in
-      let es = (outcome site s call) .events in
+      let start = r .layer .frame .«starting_water» in
       let h = layer-stands r is in
-      let accepted = call-accepted site (site-sound site start s r h .table) s call in
-      rw (after-is call) (stands-layer site start _ (withEvents r es) (stands-after site start s r h es accepted))
+      let es = (running site end budget s) .events in
+      let accepted = run-accepted site (site-sound site start s r h .table) end budget s early late in
+      stands-layer site start _ (withEvents r es) (stands-after site start s r h es accepted)
 
-  pub called-elements : (call : Call) → (called r call) .after .elements ≡ r.elements
-  called-elements call = rw (after-is call) (elements-after r ((outcome (recordSite r) (recordState r) call) .events))
+  pub ended-elements : (endedRun r end budget) .after .layer .frame .elements ≡ r .layer .frame .elements
+  unfolding endedRun
+  ended-elements = elements-after r ((running (recordSite r) end budget (recordState r)) .events)

@@ -1,4 +1,5 @@
 -- What the key does with a job that opening accepts, and the specimen's key.
 pub mod Layers
+pub mod Water
 pub mod KeyLaws
 pub mod Specimen

@@ -3,101 +3,79 @@ ghost use lib.ListN.{length};
 ghost use mathlib.Core.Bool.{true};
 ghost use mathlib.Core.Path.{_≡_};
 ghost use Prim.Native.Nat.{_≤_};
+ghost use Rattle.lent.specs.Burdens.{burdensIn};
+ghost use Rattle.key.specs.Water.{waterRun};
+ghost use Rattle.rules.specs.Job.{countsOf};
 ghost use Rattle.rules.specs.Key.{key, runToResult};
 ghost use Rattle.rules.specs.Quantities.{clockLimits, budgetLimits};
-ghost use Rattle.rules.specs.Record.{isLayer, recordOf};
+ghost use Rattle.rules.specs.Record.{soilOf, layerOf, recordOf, isLayer};
 ghost use Rattle.rules.specs.declared.record.Record.{Record};
-use job::header;
-use opening::causes::Checked;
+use opening::Opened;
 use opening::record;
 use rules::answers::Refusal;
-use rules::quantities::Clock;
-use rules::quantities::Face;
-use rules::quantities::Head;
-use rules::quantities::Pressure;
+use rules::job::Header;
+use rules::record::Frame;
+use rules::record::Progress;
 
-// Runs a layer that is lent by its fields to an end within a budget, and writes its result. Where that has no room, there is no run.
+// Runs a layer that is lent by its parts with its burdens to its header's end within its budget, and writes its result. Where that
+// has no room, there is no run.
 pub fn run_to_result<'a>(
-    top: Face,
-    bottom: Face,
-    elements: usize,
-    compressibility_points: usize,
-    conductivity_points: usize,
-    table_points: usize,
-    gravity: u64,
-    top_level: Head,
-    bottom_level: Head,
-    solids: &'a [u64; 128],
-    water: &mut [u64; 128],
-    compressibility_stress: &'a [u64; 64],
-    compressibility_void: &'a [u64; 64],
+    header: Header,
+    frame: Frame,
+    progress: Progress,
+    void: &'a [u64; 64],
+    stress: &'a [u64; 64],
     conductivity_void: &'a [u64; 64],
     conductivity: &'a [u64; 64],
+    solids: &'a [u64; 128],
+    water: &mut [u64; 128],
     table_time: &'a [u64; 64],
     table_load: &'a [u64; 64],
-    load: Pressure,
-    clock: Clock,
-    top_outflow: i64,
-    bottom_outflow: i64,
-    starting_water: u64,
-    end: u64,
-    budget: u64,
+    burden: &'a [u64; 128],
     out: &mut [u8],
 ) -> u32
     ghost { Record }
-    requires { λ layer. ⌜ recordOf top bottom elements «compressibility_points» «conductivity_points» «table_points» gravity «top_level» «bottom_level» (now solids) (now water) (now «compressibility_stress») (now «compressibility_void») (now «conductivity_void») (now conductivity) (now «table_time») (now «table_load») load clock «top_outflow» «bottom_outflow» «starting_water» ≡ layer ⌝ }
-    requires { λ layer. ⌜ isLayer layer ≡ true ⌝ }
-    requires { λ layer. ⌜ (layer .clock .0 ≤ end) × (end ≤ clockLimits .most) × (budget ≤ budgetLimits .most) ⌝ }
-    requires { λ _. ⌜ length (now water) ≡ 128 ⌝ }
-    ensures { λ layer r. ⌜ r ≡ (runToResult layer end budget (now (out .entry))) .number ⌝ }
-    ensures { λ layer _. ⌜ now (out .exit) ≡ (runToResult layer end budget (now (out .entry))) .buffer ⌝ }
+    requires { λ r. ⌜ recordOf (soilOf (countsOf header) (now void) (now stress) (now «conductivity_void») (now conductivity)) (layerOf frame progress (now solids) (now water) (now «table_time») (now «table_load»)) ≡ r ⌝ }
+    requires { λ r. ⌜ isLayer r ≡ true ⌝ }
+    requires { λ _. ⌜ (progress .clock .0 ≤ header .end) × (header .end ≤ clockLimits .most) × (header .budget ≤ budgetLimits .most) ⌝ }
+    requires { λ _. ⌜ (length (now water) ≡ 128) × (now burden ≡ burdensIn frame (now solids)) ⌝ }
+    ensures { λ r number. ⌜ number ≡ (runToResult r (header .end) (header .budget) (now (out .entry))) .number ⌝ }
+    ensures { λ r _. ⌜ now (out .exit) ≡ (runToResult r (header .end) (header .budget) (now (out .entry))) .buffer ⌝ }
+    ensures { λ r _. ⌜ now (water .exit) ≡ waterRun r (header .end) (header .budget) (now (out .entry)) ⌝ }
 {
-    if out.len() < result::result_size(elements) {
+    if out.len() < result::result_size(frame.elements) {
         return result::withheld(Refusal::ShortBuffer);
     }
-    let ran = run::run_fields(
-        top,
-        bottom,
-        elements,
-        compressibility_points,
-        conductivity_points,
-        table_points,
-        gravity,
-        top_level,
-        bottom_level,
-        solids,
-        water,
-        compressibility_stress,
-        compressibility_void,
+    let counts = record::curve_counts(header);
+    let ended = run::run_lent(
+        counts,
+        frame,
+        progress,
+        void,
+        stress,
         conductivity_void,
         conductivity,
-        table_time,
-        table_load,
-        load,
-        clock,
-        top_outflow,
-        bottom_outflow,
-        starting_water,
-        end,
-        budget,
-    );
-    let stop = ran.stop;
-    result::write_fields(
-        elements,
-        compressibility_points,
-        gravity,
-        top_level,
         solids,
         water,
-        compressibility_stress,
-        compressibility_void,
-        ran.load,
-        ran.clock,
-        ran.top_outflow,
-        ran.bottom_outflow,
-        starting_water,
-        stop,
-        ran.steps,
+        table_time,
+        table_load,
+        burden,
+        header.end,
+        header.budget,
+    );
+    result::write_lent(
+        counts,
+        frame,
+        ended,
+        void,
+        stress,
+        conductivity_void,
+        conductivity,
+        solids,
+        water,
+        table_time,
+        table_load,
+        burden,
         out,
     );
     0
@@ -109,57 +87,43 @@ pub extern "C" fn consolidation_key(job: &[u8], result: &mut [u8]) -> u32
     ensures { λ r. ⌜ r ≡ (key (now (job .entry)) (now (result .entry))) .number ⌝ }
     ensures { λ _. ⌜ now (result .exit) ≡ (key (now (job .entry)) (now (result .entry))) .buffer ⌝ }
 {
-    let mut solids = [0; 128];
-    let mut water = [0; 128];
-    let mut compressibility_stress = [0; 64];
-    let mut compressibility_void = [0; 64];
+    let mut void = [0; 64];
+    let mut stress = [0; 64];
     let mut conductivity_void = [0; 64];
     let mut conductivity = [0; 64];
+    let mut solids = [0; 128];
+    let mut water = [0; 128];
     let mut table_time = [0; 64];
     let mut table_load = [0; 64];
-    let checked = opening::open_into(
+    let mut burden = [0; 128];
+    let opened = opening::open_into(
         job,
-        &mut solids,
-        &mut water,
-        &mut compressibility_stress,
-        &mut compressibility_void,
+        &mut void,
+        &mut stress,
         &mut conductivity_void,
         &mut conductivity,
+        &mut solids,
+        &mut water,
         &mut table_time,
         &mut table_load,
+        &mut burden,
     );
-    if let Checked::Refused(cause) = checked {
-        return result::withheld(cause);
+    match opened {
+        Opened::Refused(cause) => result::withheld(cause),
+        Opened::Accepted(header, frame, progress) => run_to_result(
+            header,
+            frame,
+            progress,
+            &void,
+            &stress,
+            &conductivity_void,
+            &conductivity,
+            &solids,
+            &mut water,
+            &table_time,
+            &table_load,
+            &burden,
+            result,
+        ),
     }
-    let header = header::read_header(job);
-    let numbers = record::opened_numbers(header, &water, &table_load);
-    let top = numbers.top;
-    let bottom = numbers.bottom;
-    run_to_result(
-        top,
-        bottom,
-        header.elements,
-        header.compressibility_points,
-        header.conductivity_points,
-        header.table_points,
-        header.gravity,
-        Head(numbers.top_level),
-        Head(numbers.bottom_level),
-        &solids,
-        &mut water,
-        &compressibility_stress,
-        &compressibility_void,
-        &conductivity_void,
-        &conductivity,
-        &table_time,
-        &table_load,
-        Pressure(numbers.load),
-        Clock(0),
-        0,
-        0,
-        numbers.starting_water,
-        header.end,
-        header.budget,
-        result,
-    )
 }

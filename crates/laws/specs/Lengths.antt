@@ -1,12 +1,13 @@
 -- How many elements, flows and water heights there are.
 use Prim.Native.Nat.{ℕ, suc}
 use native.Mathlib.Omega.{arith}
-use lib.IntN.{ℤ, negℤ, natAbs}
-use lib.ListN.{length, length-map}
+use lib.IntN.{ℤ, negℤ}
+use lib.ListN.{length}
 use mathlib.Core.List.{List, [], _∷_}
 use mathlib.Core.Path.{_≡_, refl, ap, _∙_}
+use Rattle.numbers.specs.Lists.{paired}
 use Rattle.rules.specs.Layer.{Site, State, Element, burdens, elementsFrom, elements}
-use Rattle.rules.specs.Step.{outward, flowsAbove, upwardFlows, moved, stepped}
+use Rattle.rules.specs.Step.{outward, flowsAbove, upwardFlows, moved, newHeight, stepped}
 use Rattle.rules.specs.declared.quantities.Face.{Face}
 
 -- a burden for each element
@@ -63,10 +64,18 @@ pub flows-length : (top bottom : Face) (t : ℕ) (e : Element) (rest : List Elem
 unfolding upwardFlows
 flows-length top bottom t e rest = ap suc (above-length top t (e ∷ rest))
 
+-- two lists of one length pair to as many entries
+pub paired-length : {A B C : Type 0} (f : A → B → C) (xs : List A) (ys : List B) → length ys ≡ length xs →
+    length (paired f xs ys) ≡ length xs
+unfolding paired
+paired-length f [] ys h = refl
+paired-length f (x ∷ xs) [] h = absurd (omega arith)
+paired-length f (x ∷ xs) (y ∷ ys) h = ap suc (paired-length f xs ys (omega arith))
+
 -- a step keeps the number of water heights
 pub stepped-length : (site : Site) (t : ℕ) (s : State) → length s.water ≡ length site.solids →
     length ((stepped site t s) .water) ≡ length s.water
 unfolding stepped
 stepped-length site t s h =
-    length-map (moved (upwardFlows site.top site.bottom t (elements site s)) s.water) natAbs ∙
-    flows-moved-length site.top site.bottom t (elements site s) s.water (elements-length site s h)
+    paired-length newHeight s.water (moved (upwardFlows site.top site.bottom t (elements site s)) s.water)
+    (flows-moved-length site.top site.bottom t (elements site s) s.water (elements-length site s h))

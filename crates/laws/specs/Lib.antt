@@ -26,5 +26,10 @@ pub mod Balance
 -- the longest step
 pub mod Longest
 pub mod Shorten
+-- what a sound header, sound sizes, a sound site and a sound state say
+pub mod SoundHeader
+pub mod Sizes
+pub mod SiteFacts
+pub mod StateFacts
 -- lists by index, as loops over arrays read them
 pub mod Index

@@ -1,20 +1,20 @@
 -- What a step that stays on the curve leaves: water on the curve, and none of it negative.
 use Prim.Native.Nat.{ℕ}
 use lib.Dec.{T}
-use lib.IntN.{ℤ, pos, negsuc, natAbs}
+use lib.IntN.{ℤ, pos, negsuc}
 use mathlib.Core.Bool.{Bool, true, false, not}
 use mathlib.Core.List.{List}
 use mathlib.Core.Path.{_≡_, refl}
 use Rattle.rules.specs.Curve.{Point, isOn}
 use Rattle.rules.specs.Layer.{Site, State, elements, effectiveStress}
-use Rattle.rules.specs.Step.{upwardFlows, moved, onCurve, allOnCurve, leavesCurve}
+use Rattle.rules.specs.Step.{upwardFlows, moved, newHeight, onCurve, allOnCurve, leavesCurve}
 
--- water on the curve is not negative, and its effective stress is read
-pub on-curve-parts : (curve : List Point) (S : ℕ) (z : ℤ) → T (onCurve curve S z) →
-    (pos (natAbs z) ≡ z) × T (isOn (effectiveStress curve S (natAbs z)))
-unfolding onCurve
-on-curve-parts curve S (pos W) t = (refl, t)
-on-curve-parts curve S (negsuc W) t = absurd t
+-- water on the curve is not negative, so it is the new height, and its effective stress is read
+pub on-curve-parts : (curve : List Point) (S old : ℕ) (z : ℤ) → T (onCurve curve S z) →
+    (pos (newHeight old z) ≡ z) × T (isOn (effectiveStress curve S (newHeight old z)))
+unfolding onCurve newHeight
+on-curve-parts curve S old (pos W) t = (refl, t)
+on-curve-parts curve S old (negsuc W) t = absurd t
 
 -- all new water of a step that does not leave the curve is on it
 pub stays-on : (site : Site) (s : State) (t : ℕ) → T (not (leavesCurve site s t)) →

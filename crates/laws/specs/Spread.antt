@@ -3,14 +3,15 @@
 use Prim.Native.Nat.{ℕ, _*_, _<_}
 use native.Mathlib.Omega.{arith}
 use lib.Dec.{T}
-use lib.IntN.{ℤ, pos, negℤ, natAbs, _+ℤ_, _-ℤ_, +ℤ-assoc}
+use lib.IntN.{ℤ, pos, negℤ, _+ℤ_, _-ℤ_, +ℤ-assoc}
 use mathlib.Core.Bool.{Bool, true, not, _&&_}
 use mathlib.Core.List.{List, [], _∷_, map}
 use mathlib.Core.Path.{_∙_}
 use Rattle.numbers.specs.Searches.{both}
 use Rattle.rules.specs.Curve.{falling}
 use Rattle.rules.specs.Layer.{Site, State, Element, element, elementsFrom, elements, burden, burdens, effectiveStress, sensitivity}
-use Rattle.rules.specs.Step.{innerResistance, upward, outward, flowsAbove, upwardFlows, moved, stepped, stressSlope}
+use Rattle.numbers.specs.Lists.{paired}
+use Rattle.rules.specs.Step.{innerResistance, upward, outward, flowsAbove, upwardFlows, moved, newHeight, stepped, stressSlope}
 use Rattle.rules.specs.Step.{Contact, outerContacts, contactsAbove, contacts, tooLong, onCurve, allOnCurve, leavesCurve}
 use Rattle.rules.specs.declared.quantities.Face.{Face}
 use Rattle.rules.specs.declared.quantities.Face.the-variants.{Closed, Drained}
@@ -54,18 +55,18 @@ module _ (site : Site) {P : ℤ → Type 0} (convex : Convex P)
     -- an element on the curve before and after stays in the set if it bears what crosses each of its faces
     kept-element : (above below : ℤ) → 0 < S → T (on S (pos w)) → T (on S (pos w -ℤ above +ℤ below)) →
         P (e .excess) → Bears P (K e) (e .excess) (negℤ above) → Bears P (K e) (e .excess) below →
-        P ((element site load B S (natAbs (pos w -ℤ above +ℤ below))) .excess)
-    unfolding element
+        P ((element site load B S (newHeight w (pos w -ℤ above +ℤ below))) .excess)
+    unfolding element newHeight
     kept-element above below solid old new p leaves enters =
-        let (same, on′) = on-curve-parts site.compressibility S (pos w -ℤ above +ℤ below) new in
-        principle (fall S solid) w (natAbs (pos w -ℤ above +ℤ below)) (on-curve-parts site.compressibility S (pos w) old .1) on′
+        let (same, on′) = on-curve-parts site.compressibility S w (pos w -ℤ above +ℤ below) new in
+        principle (fall S solid) w (newHeight w (pos w -ℤ above +ℤ below)) (on-curve-parts site.compressibility S w (pos w) old .1) on′
         convex (load +ℤ pos B) (negℤ above) below (same ∙ +ℤ-assoc (pos w) (negℤ above) below) p leaves enters
 
     -- so does the highest element
     kept-top : (below : ℤ) → 0 < S → Holds P site.top → P (e .excess) → Every Short (outerContacts site.top e) →
         Bears P (K e) (e .excess) below → T (on S (pos w) && true) →
         T (on S (pos w -ℤ outward site.top t e +ℤ below) && true) →
-        P ((element site load B S (natAbs (pos w -ℤ outward site.top t e +ℤ below))) .excess)
+        P ((element site load B S (newHeight w (pos w -ℤ outward site.top t e +ℤ below))) .excess)
     kept-top below solid top p short enters old new =
         let out = outward site.top t e in
         let before = both (on S (pos w)) true old .0 in
@@ -92,8 +93,8 @@ module _ (site : Site) {P : ℤ → Type 0} (convex : Convex P)
     spread-up : (Ss Ws : List ℕ) (below : ℤ) → Every (λ S. 0 < S) Ss → Holds P site.top → Kept (layer Ss Ws) →
         Every Short (contactsAbove site.top (layer Ss Ws)) → Enters below (layer Ss Ws) → T (allOn Ss (map pos Ws)) →
         T (allOn Ss (moved (below ∷ flowsAbove site.top t (layer Ss Ws)) Ws)) →
-        Kept (layer Ss (map natAbs (moved (below ∷ flowsAbove site.top t (layer Ss Ws)) Ws)))
-    unfolding Every Enters elementsFrom burdens element contactsAbove flowsAbove moved allOnCurve upward
+        Kept (layer Ss (paired newHeight Ws (moved (below ∷ flowsAbove site.top t (layer Ss Ws)) Ws)))
+    unfolding Every Enters elementsFrom burdens element contactsAbove flowsAbove moved paired allOnCurve upward
     spread-up [] Ws below solid top kept short enters old new = tt
     spread-up (S ∷ Ss) [] below solid top kept short enters old new = tt
     spread-up (S ∷ []) (w ∷ Ws) below solid top kept short enters old new =
@@ -119,8 +120,8 @@ module _ (site : Site) {P : ℤ → Type 0} (convex : Convex P)
     spread-whole : (Ss Ws : List ℕ) → Every (λ S. 0 < S) Ss → Holds P site.top → Holds P site.bottom → Kept (layer Ss Ws) →
         Every Short (contacts site.top site.bottom (layer Ss Ws)) → T (allOn Ss (map pos Ws)) →
         T (allOn Ss (moved (upwardFlows site.top site.bottom t (layer Ss Ws)) Ws)) →
-        Kept (layer Ss (map natAbs (moved (upwardFlows site.top site.bottom t (layer Ss Ws)) Ws)))
-    unfolding Every Enters elementsFrom burdens contacts upwardFlows moved
+        Kept (layer Ss (paired newHeight Ws (moved (upwardFlows site.top site.bottom t (layer Ss Ws)) Ws)))
+    unfolding Every Enters elementsFrom burdens contacts upwardFlows moved paired
     spread-whole [] Ws solid top bottom kept short old new = tt
     spread-whole (S ∷ Ss) [] solid top bottom kept short old new = tt
     spread-whole (S ∷ Ss) (w ∷ Ws) solid top bottom kept short old new =

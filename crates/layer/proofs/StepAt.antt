@@ -32,7 +32,7 @@ unfolding tabulate
 map-tabulate h zero f = refl
 map-tabulate h (suc n) f = ap (λ l. h (f zero) ∷ l) (map-tabulate h n (λ k. f (suc k)))
 
-paired-tabulate : {A B C : Type 0} (h : A → B → C) (n : ℕ) (f : ℕ → A) (g : ℕ → B) →
+pub paired-tabulate : {A B C : Type 0} (h : A → B → C) (n : ℕ) (f : ℕ → A) (g : ℕ → B) →
     paired h (tabulate n f) (tabulate n g) ≡ tabulate n (λ k. h (f k) (g k))
 unfolding paired tabulate
 paired-tabulate h zero f g = refl

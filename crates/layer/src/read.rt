@@ -2,15 +2,18 @@
 ghost use lib.ListN.{length, getD};
 ghost use mathlib.Core.Path.{_≡_};
 ghost use Prim.Native.Nat.{ℕ, _+_, _≤_, _<_};
+ghost use Rattle.layer.specs.Segments.{Segments};
 ghost use Rattle.layer.specs.Soil.{Soil, OnSoil, excessAt, resistanceAt};
 ghost use Rattle.numbers.specs.Arrays.{filled};
 ghost use Rattle.rules.specs.Curve.{points};
 ghost use Rattle.rules.specs.Layer.{excessPressure, resistance};
+ghost use Rattle.rules.specs.Quantities.{pressure};
 use curves::reading;
+use rules::quantities::Pressure;
 
 // An element as read, with the segments of both curves where it was found.
 pub struct Read {
-    pub excess: i64,
+    pub excess: Pressure,
     pub resistance: u64,
     pub stress_segment: usize,
     pub conductivity_segment: usize,
@@ -18,7 +21,7 @@ pub struct Read {
 
 // Reads one element, from the segments where it was found last.
 pub fn read_element<'a>(
-    load: i64,
+    load: Pressure,
     burden: u64,
     solids: u64,
     water: u64,
@@ -32,12 +35,12 @@ pub fn read_element<'a>(
     conductivity_hint: usize,
 ) -> Read
     requires { ⌜ Soil m (now void) (now stress) n (now «conductivity_void») (now conductivity) ⌝ }
-    requires { ⌜ OnSoil m (now void) (now stress) load burden solids water ⌝ }
-    ensures { λ r. ⌜ (r .excess ≡ excessPressure (points m (now (void .entry)) (now (stress .entry))) load burden solids water) × (r .resistance ≡ resistance (points n (now («conductivity_void» .entry)) (now (conductivity .entry))) solids water) ⌝ }
+    requires { ⌜ OnSoil m (now void) (now stress) (load .0) burden solids water ⌝ }
+    ensures { λ r. ⌜ (r .excess ≡ pressure (excessPressure (points m (now (void .entry)) (now (stress .entry))) (load .0) burden solids water)) × (r .resistance ≡ resistance (points n (now («conductivity_void» .entry)) (now (conductivity .entry))) solids water) ⌝ }
     ensures { λ r. ⌜ (r .«stress_segment» + 1 < m) × (r .«conductivity_segment» + 1 < n) ⌝ }
 {
+    let found = element::effective_stress(solids, water, m, void, stress, stress_hint);
     let ratio = element::void_ratio(solids, water);
-    let found = reading::read(m, void, stress, ratio, stress_hint);
     let passed = reading::read(n, conductivity_void, conductivity, ratio, conductivity_hint);
     let stress_value = found.value;
     let conductivity_value = passed.value;
@@ -52,7 +55,7 @@ pub fn read_element<'a>(
 // Reads every element: excess pressures and resistances in the first places, the segments beside them.
 pub fn read_elements<'a>(
     count: usize,
-    load: i64,
+    load: Pressure,
     burden: &'a [u64; 128],
     solids: &'a [u64; 128],
     water: &'a [u64; 128],
@@ -69,10 +72,12 @@ pub fn read_elements<'a>(
 )
     requires { ⌜ count ≤ 128 ⌝ }
     requires { ⌜ Soil m (now void) (now stress) n (now «conductivity_void») (now conductivity) ⌝ }
-    requires { ⌜ ((j : ℕ) → j < count → OnSoil m (now void) (now stress) load (getD (now burden) j 0) (getD (now solids) j 0) (getD (now water) j 0)) ⌝ }
-    requires { ⌜ (length (now excess) ≡ 128) × (length (now resistance) ≡ 128) ⌝ }
-    ensures { λ _. ⌜ now (excess .exit) ≡ filled (now (excess .entry)) count (excessAt (points m (now (void .entry)) (now (stress .entry))) load (now (burden .entry)) (now (solids .entry)) (now (water .entry))) ⌝ }
+    requires { ⌜ ((j : ℕ) → j < count → OnSoil m (now void) (now stress) (load .0) (getD (now burden) j 0) (getD (now solids) j 0) (getD (now water) j 0)) ⌝ }
+    requires { ⌜ (length (now excess) ≡ 128) × (length (now resistance) ≡ 128) × (length (now «stress_segment») ≡ 128) × (length (now «conductivity_segment») ≡ 128) ⌝ }
+    ensures { λ _. ⌜ now (excess .exit) ≡ filled (now (excess .entry)) count (excessAt (points m (now (void .entry)) (now (stress .entry))) (load .0) (now (burden .entry)) (now (solids .entry)) (now (water .entry))) ⌝ }
     ensures { λ _. ⌜ now (resistance .exit) ≡ filled (now (resistance .entry)) count (resistanceAt (points n (now («conductivity_void» .entry)) (now (conductivity .entry))) (now (solids .entry)) (now (water .entry))) ⌝ }
+    ensures { λ _. ⌜ Segments count m (now («stress_segment» .entry)) (now («stress_segment» .exit)) ⌝ }
+    ensures { λ _. ⌜ Segments count n (now («conductivity_segment» .entry)) (now («conductivity_segment» .exit)) ⌝ }
 {
     let mut j: usize = 0;
     while j < count {
@@ -90,7 +95,7 @@ pub fn read_elements<'a>(
             stress_segment[j],
             conductivity_segment[j],
         );
-        let pressure = one.excess;
+        let pressure = one.excess.0;
         excess[j] = pressure;
         resistance[j] = one.resistance;
         stress_segment[j] = one.stress_segment;

@@ -2,33 +2,33 @@
 use Prim.Native.Nat.{ℕ, zero, suc, _-_, _≤_, _<_}
 use native.Mathlib.Omega.{arith}
 use lib.Dec.{T, ltb, ltb→lt, nltb→le}
-use lib.IntN.{ℤ, pos, negℤ, natAbs}
+use lib.IntN.{ℤ, pos, negℤ}
 use lib.ListN.{getD}
 use lib.Signed.{leZ, _≤ℤ_}
 use mathlib.Core.Bool.{Bool, true, false}
-use mathlib.Core.List.{List, [], _∷_, map}
+use mathlib.Core.List.{List, [], _∷_}
 use mathlib.Core.Path.{_≡_, refl, sym, ap, subst, _∙_}
 use Rattle.element.proofs.FlowsAt.{outward-range, above-range}
 use Rattle.element.specs.Elements.{elementOf, Readable, flowAbove}
 use Rattle.laws.specs.Index.{last-at}
 use Rattle.laws.specs.OnCurve.{on-curve-parts}
 use Rattle.laws.specs.Outflow.{HeldWithin}
-use Rattle.layer.proofs.StepAt.{map-tabulate, upward-flows-in, moved-in, on-curve-in, stays-in}
-use Rattle.motion.specs.Moving.{flowsIn, movedBy, waterAfter, staysOn, Bounded}
+use Rattle.layer.proofs.StepAt.{paired-tabulate, upward-flows-in, moved-in, on-curve-in, stays-in}
+use Rattle.motion.specs.Moving.{flowsIn, movedBy, newHeights, waterAfter, staysOn, Bounded}
 use Rattle.motion.specs.declared.Moved.the-variants.{Flows, Leaves}
 use Rattle.numbers.specs.Arrays.{tabulate, firstPlaces, overlaid, filled, everyIndex}
 use Rattle.numbers.specs.Filled.{length-tabulate, getD-tabulate, getD-filled, getD-filled-past}
 use Rattle.numbers.specs.Indices.{every-at}
 use Rattle.numbers.specs.Interval.{within-neg}
-use Rattle.numbers.specs.Lists.{firstOr, lastOr}
+use Rattle.numbers.specs.Lists.{paired, firstOr, lastOr}
 use Rattle.numbers.specs.Searches.{passed, both, same-test, by-test}
 use Rattle.numbers.specs.Signed.{signed}
 use Rattle.rules.specs.Curve.{Point, isOn}
 use Rattle.rules.specs.Layer.{effectiveStress}
 use Rattle.rules.specs.Quantities.{stepLimits, waterLimits}
-use Rattle.rules.specs.Step.{outward, moved, onCurve, allOnCurve}
+use Rattle.rules.specs.Step.{outward, moved, newHeight, onCurve, allOnCurve}
 use Rattle.rules.specs.declared.quantities.Face.{Face}
-use Rattle.water.specs.Water.{newWater, staysAt, Movable}
+use Rattle.water.specs.Water.{newWater, heightAfter, staysAt, Movable}
 
 -- ---- the same for equal numbers
 
@@ -41,7 +41,7 @@ pub stays-as : (n : ℕ) (water low high : List ℕ) {lowest lowest′ : ℤ} {a
 stays-as n water low high p q = rw (p, q) refl
 
 pub filled-as : (n : ℕ) (water : List ℕ) {lowest lowest′ : ℤ} {above above′ : List ℤ} → lowest′ ≡ lowest → above′ ≡ above →
-    filled water n (λ j. natAbs (newWater lowest′ above′ water j)) ≡ filled water n (λ j. natAbs (newWater lowest above water j))
+    filled water n (heightAfter lowest′ above′ water) ≡ filled water n (heightAfter lowest above water)
 filled-as n water p q = rw (p, q) refl
 
 -- ---- what a step gives, by whether it stays on the curve
@@ -60,7 +60,7 @@ unfolding waterAfter
 keeps flows n water e = rw e refl
 
 pub moves-on : {stays : Bool} (flows : List ℤ) (n : ℕ) (water : List ℕ) → stays ≡ true →
-    overlaid (map natAbs (moved flows (firstPlaces n water))) water ≡ waterAfter stays flows n water
+    overlaid (newHeights flows n water) water ≡ waterAfter stays flows n water
 unfolding waterAfter
 moves-on flows n water e = rw e refl
 
@@ -116,10 +116,11 @@ module _ (n : ℕ) (some-element : 0 < n) (top bottom : Face) (t : ℕ) (excess 
         ap (λ (l : List ℤ). moved l (firstPlaces n water)) flows-are ∙
         moved-in n lowest above water (flowAbove top t n excess resistance) above-at
 
-    pub water-is : filled water n (λ j. natAbs (newWater lowest above water j)) ≡ overlaid (map natAbs (moved flows (firstPlaces n water))) water
-    unfolding filled
+    pub water-is : filled water n (heightAfter lowest above water) ≡ overlaid (newHeights flows n water) water
+    unfolding filled firstPlaces
     water-is =
-        ap (λ (l : List ℕ). overlaid l water) (sym (ap (map natAbs) new-is ∙ map-tabulate natAbs n (newWater lowest above water)))
+        ap (λ (l : List ℕ). overlaid l water)
+        (sym (ap (paired newHeight (firstPlaces n water)) new-is ∙ paired-tabulate newHeight n (λ j. getD water j 0) (newWater lowest above water)))
 
     -- the bounds tell whether it stays on the curve
     pub stays-is : (low high : List ℕ) (curve : List Point) (solids : List ℕ) → Bounded curve n solids low high →
@@ -142,10 +143,10 @@ module _ (n : ℕ) (some-element : 0 < n) (top bottom : Face) (t : ℕ) (excess 
       abbrev on : ℕ → Bool
       on W = isOn (effectiveStress curve (getD solids j 0) W)
 
-      new-on : T (staysOn curve n solids flows water) → j < n → T (on (natAbs (newWater lowest above water j)))
+      new-on : T (staysOn curve n solids flows water) → j < n → T (on (heightAfter lowest above water j))
       new-on t h =
           let all-on = ap (λ (l : List ℤ). allOnCurve curve (firstPlaces n solids) l) new-is ∙ on-curve-in curve n solids (newWater lowest above water) in
-          on-curve-parts curve (getD solids j 0) (newWater lowest above water j)
+          on-curve-parts curve (getD solids j 0) (getD water j 0) (newWater lowest above water j)
           (every-at n (λ i. onCurve curve (getD solids i 0) (newWater lowest above water i)) (subst T all-on t) j h) .1
 
       -- a step leaves it on the curve if it was on it
@@ -155,8 +156,8 @@ module _ (n : ℕ) (some-element : 0 < n) (top bottom : Face) (t : ℕ) (excess 
           by-test (staysOn curve n solids flows water) (λ stays. on (getD (waterAfter stays flows n water) j 0) ≡ true)
           (λ t.
           rw (← water-is)
-          (by-test (ltb j n) (λ _. on (getD (filled water n (λ i. natAbs (newWater lowest above water i))) j 0) ≡ true)
+          (by-test (ltb j n) (λ _. on (getD (filled water n (heightAfter lowest above water)) j 0) ≡ true)
           (λ below. let h = ltb→lt j n below in
-          rw (getD-filled water n (λ i. natAbs (newWater lowest above water i)) j 0 h) (same-test _ true (λ _. tt) (λ _. new-on t h)))
-          (λ past. rw (getD-filled-past water n (λ i. natAbs (newWater lowest above water i)) j 0 (nltb→le j n past)) was)))
+          rw (getD-filled water n (heightAfter lowest above water) j 0 h) (same-test _ true (λ _. tt) (λ _. new-on t h)))
+          (λ past. rw (getD-filled-past water n (heightAfter lowest above water) j 0 (nltb→le j n past)) was)))
           (λ _. was)

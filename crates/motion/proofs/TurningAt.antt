@@ -2,7 +2,7 @@
 use Prim.Native.Nat.{ℕ, zero, suc, _-_, _≤_, _<_}
 use native.Mathlib.Omega.{arith}
 use lib.Dec.{T}
-use lib.IntN.{ℤ, pos, natAbs}
+use lib.IntN.{ℤ, pos}
 use lib.ListN.{length, getD}
 use mathlib.Core.Bool.{Bool, true, false, not}
 use mathlib.Core.List.{List, [], map}
@@ -17,7 +17,7 @@ use Rattle.layer.proofs.ReadAt.{water-most}
 use Rattle.layer.proofs.StepAt.{flows-in, upward-flows-in, contacts-in, elements-in}
 use Rattle.layer.specs.Soil.{Soil, OnSoil, excessAt, resistanceAt}
 use Rattle.motion.proofs.MovingAt.{kept}
-use Rattle.motion.specs.Moving.{flowsIn, movedBy, staysOn, waterAfter}
+use Rattle.motion.specs.Moving.{flowsIn, movedBy, newHeights, staysOn, waterAfter}
 use Rattle.motion.specs.declared.Moved.{Moved}
 use Rattle.motion.specs.declared.Moved.the-variants.{Flows, Leaves}
 use Rattle.motion.specs.Turning.{longestUpTo, turnedBy, waterTurned, flowsTurned, Worked, Shows}
@@ -211,7 +211,7 @@ module _ (n : ℕ) (some-element : 0 < n) (m : ℕ) (void stress : List ℕ) (k 
         unfolding leavesCurve
         leaves-is = rw (← flows-are, shows .water-is, shows .solids-are, shows .compressibility-is) refl
 
-        pub stepped-is : overlaid (map natAbs (moved (flowsIn top bottom t n excess resistance) (firstPlaces n water))) water ≡ overlaid ((stepped site t s) .water) water
+        pub stepped-is : overlaid (newHeights (flowsIn top bottom t n excess resistance) n water) water ≡ overlaid ((stepped site t s) .water) water
         unfolding stepped
         stepped-is = rw (← flows-are, shows .water-is) refl
 
@@ -248,7 +248,7 @@ module _ (n : ℕ) (some-element : 0 < n) (m : ℕ) (void stress : List ℕ) (k 
             low-flow ≡ firstOr (pos 0) (flowsIn top bottom t n excess resistance) →
             top-flow ≡ lastOr (pos 0) (flowsIn top bottom t n excess resistance) →
             (Stepped t low-flow top-flow ≡ turnedBy site s turned) ×
-            (overlaid (map natAbs (moved (flowsIn top bottom t n excess resistance) (firstPlaces n water))) water ≡ waterTurned site s turned water) ×
+            (overlaid (newHeights (flowsIn top bottom t n excess resistance) n water) water ≡ waterTurned site s turned water) ×
             (filled above n (flowAbove top t n excess resistance) ≡ flowsTurned site s n (longestUpTo site s most) above)
         unfolding turnedBy waterTurned flowsTurned
         goes-on zero h e stays p q = absurd (omega arith)

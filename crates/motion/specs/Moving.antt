@@ -1,19 +1,19 @@
 -- A step of a layer as arrays hold it: what it gives, and what it needs.
 use Prim.Native.Nat.{ℕ, _≤_, _<_}
 use lib.Dec.{T}
-use lib.IntN.{ℤ, pos, natAbs}
+use lib.IntN.{ℤ, pos}
 use lib.ListN.{length, getD}
 use mathlib.Core.Bool.{Bool, true, false}
-use mathlib.Core.List.{List, [], map}
+use mathlib.Core.List.{List, []}
 use mathlib.Core.Path.{_≡_}
 use Rattle.element.specs.Elements.{elementsIn}
 use Rattle.laws.specs.Bounds.{lowestWater, highestWater}
 use Rattle.laws.specs.Rising.{lastAbscissa}
 use Rattle.numbers.specs.Arrays.{firstPlaces, overlaid}
-use Rattle.numbers.specs.Lists.{firstOr, lastOr}
+use Rattle.numbers.specs.Lists.{paired, firstOr, lastOr}
 use Rattle.rules.proofs.Falling.{firstAbscissa}
 use Rattle.rules.specs.Curve.{Point, falling}
-use Rattle.rules.specs.Step.{upwardFlows, moved, allOnCurve}
+use Rattle.rules.specs.Step.{upwardFlows, moved, newHeight, allOnCurve}
 use Rattle.rules.specs.declared.quantities.Face.{Face}
 use Rattle.motion.specs.declared.Moved.{Moved}
 use Rattle.motion.specs.declared.Moved.the-variants.{Flows, Leaves}
@@ -27,11 +27,15 @@ unfoldable pub movedBy : (stays : Bool) (flows : List ℤ) → Moved
 unfolding firstOr lastOr
 movedBy stays flows = elim stays [ true ↦ Flows (firstOr (pos 0) flows) (lastOr (pos 0) flows) | false ↦ Leaves ]
 
+-- the heights of the first places after the flows
+abbrev pub newHeights : (flows : List ℤ) (n : ℕ) (water : List ℕ) → List ℕ
+newHeights flows n water = paired newHeight (firstPlaces n water) (moved flows (firstPlaces n water))
+
 -- the water after it, as it was where it leaves the curve; places past the count are kept
 unfoldable pub waterAfter : (stays : Bool) (flows : List ℤ) (n : ℕ) (water : List ℕ) → List ℕ
-unfolding overlaid moved firstPlaces
+unfolding overlaid moved firstPlaces paired newHeight
 waterAfter stays flows n water =
-    elim stays [ true ↦ overlaid (map natAbs (moved flows (firstPlaces n water))) water | false ↦ water ]
+    elim stays [ true ↦ overlaid (newHeights flows n water) water | false ↦ water ]
 
 -- the flows leave every element on a curve
 abbrev pub staysOn : (curve : List Point) (n : ℕ) (solids : List ℕ) (flows : List ℤ) (water : List ℕ) → Bool

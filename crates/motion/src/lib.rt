@@ -8,8 +8,8 @@ ghost use Rattle.element.specs.Elements.{Readable, flowAbove};
 ghost use Rattle.laws.specs.Bounds.{lowestWater, highestWater};
 ghost use Rattle.laws.specs.Outflow.{HeldWithin};
 ghost use Rattle.laws.specs.Rising.{lastAbscissa};
+ghost use Rattle.layer.specs.Segments.{Segments};
 ghost use Rattle.layer.specs.Soil.{Soil, OnSoil, excessAt, resistanceAt};
-ghost use Rattle.layer.specs.Weights.{burdenAt};
 ghost use Rattle.motion.specs.Moving.{flowsIn, movedBy, waterAfter, staysOn, Bounded, SomeBounds};
 ghost use Rattle.motion.specs.Turning.{longestUpTo, turnedBy, waterTurned, flowsTurned, Worked, Shows, SomeShown};
 ghost use Rattle.numbers.specs.Arrays.{filled};
@@ -18,13 +18,13 @@ ghost use Rattle.rules.specs.Curve.{Point, points, compressibilitySound, steepn
 ghost use Rattle.rules.specs.Layer as layer;
 ghost use Rattle.rules.specs.Layer.{Site, State};
 ghost use Rattle.rules.specs.Run as run;
-ghost use Rattle.rules.specs.Quantities.{stepLimits, waterLimits, gravityLimits, solidsLimits};
+ghost use Rattle.rules.specs.Quantities.{stepLimits, waterLimits, solidsLimits};
 use curves::steep;
 use layer::moving;
 use layer::read;
-use layer::weights;
 use rules::answers::Stop;
 use rules::quantities::Face;
+use rules::quantities::Pressure;
 
 // What a step gives: the flows up through the bottom and up through the top, or that it leaves the curve.
 pub enum Moved {
@@ -65,30 +65,26 @@ pub fn advance<'a>(
     Moved::Flows(lowest, above[last])
 }
 
-// What is worked out once for a site: burdens, sensitivities and bounds of water in the first n places, and the slope.
+// What is worked out once for a site: sensitivities and bounds of water in the first n places, and the slope.
 pub fn prepare<'a>(
     n: usize,
-    gravity: u64,
     solids: &'a [u64; 128],
     m: usize,
     void: &'a [u64; 64],
     stress: &'a [u64; 64],
-    burden: &mut [u64; 128],
     sensitivity: &mut [u64; 128],
     low: &mut [u64; 128],
     high: &mut [u64; 128],
 ) -> u64
     requires { ⌜ n ≤ 128 ⌝ }
-    requires { ⌜ (gravityLimits .least ≤ gravity) × (gravity ≤ gravityLimits .most) ⌝ }
     requires { ⌜ ((j : ℕ) → j < n → (0 < getD (now solids) j 0) × (getD (now solids) j 0 ≤ solidsLimits .most)) ⌝ }
     requires { ⌜ (2 ≤ m) × (m ≤ 64) × (compressibilitySound (points m (now void) (now stress)) ≡ true) ⌝ }
-    requires { ⌜ (length (now burden) ≡ 128) × (length (now sensitivity) ≡ 128) × (length (now low) ≡ 128) × (length (now high) ≡ 128) ⌝ }
-    ensures { λ r. ⌜ (r ≡ steepness (points m (now (void .entry)) (now (stress .entry)))) × (now (burden .exit) ≡ filled (now (burden .entry)) n (burdenAt gravity n (now (solids .entry)))) ⌝ }
+    requires { ⌜ (length (now sensitivity) ≡ 128) × (length (now low) ≡ 128) × (length (now high) ≡ 128) ⌝ }
+    ensures { λ r. ⌜ r ≡ steepness (points m (now (void .entry)) (now (stress .entry))) ⌝ }
     ensures { λ _. ⌜ now (sensitivity .exit) ≡ filled (now (sensitivity .entry)) n (λ j. layer.sensitivity (getD (now (solids .entry)) j 0)) ⌝ }
     ensures { λ _. ⌜ now (low .exit) ≡ filled (now (low .entry)) n (λ j. lowestWater (getD (now (solids .entry)) j 0) (lastAbscissa (points m (now (void .entry)) (now (stress .entry))))) ⌝ }
     ensures { λ _. ⌜ now (high .exit) ≡ filled (now (high .entry)) n (λ j. highestWater (getD (now (solids .entry)) j 0) (firstAbscissa (points m (now (void .entry)) (now (stress .entry))))) ⌝ }
 {
-    weights::burdens(n, gravity, solids, burden);
     reach::sensitivities(n, solids, sensitivity);
     let last = m - 1;
     water::water_bounds(n, solids, void[last], void[0], low, high);
@@ -106,7 +102,7 @@ pub fn turn<'a>(
     n: usize,
     top: Face,
     bottom: Face,
-    load: i64,
+    load: Pressure,
     most: u64,
     slope: u64,
     burden: &'a [u64; 128],
@@ -130,14 +126,16 @@ pub fn turn<'a>(
     requires { ⌜ (0 < n) × (n ≤ 128) ⌝ }
     requires { ⌜ HeldWithin top × HeldWithin bottom × (most ≤ stepLimits .most) ⌝ }
     requires { ⌜ Soil m (now void) (now stress) k (now «conductivity_void») (now conductivity) ⌝ }
-    requires { ⌜ ((j : ℕ) → j < n → OnSoil m (now void) (now stress) load (getD (now burden) j 0) (getD (now solids) j 0) (getD (now water) j 0)) ⌝ }
+    requires { ⌜ ((j : ℕ) → j < n → OnSoil m (now void) (now stress) (load .0) (getD (now burden) j 0) (getD (now solids) j 0) (getD (now water) j 0)) ⌝ }
     requires { ⌜ Worked n (points m (now void) (now stress)) (now solids) (now sensitivity) (now low) (now high) slope ⌝ }
-    requires { ⌜ (length (now excess) ≡ 128) × (length (now resistance) ≡ 128) × (length (now above) ≡ 128) × (length (now water) ≡ 128) ⌝ }
-    requires { ⌜ SomeShown n top bottom load (now burden) (now solids) (now water) m (now void) (now stress) k (now «conductivity_void») (now conductivity) ⌝ }
-    ensures { λ r. ⌜ ((site : Site) (s : State) → Shows site s n top bottom load (now (burden .entry)) (now (solids .entry)) (now (water .entry)) m (now (void .entry)) (now (stress .entry)) k (now («conductivity_void» .entry)) (now (conductivity .entry)) → r ≡ turnedBy site s (run.turn site s (longestUpTo site s most))) ⌝ }
-    ensures { λ _. ⌜ ((site : Site) (s : State) → Shows site s n top bottom load (now (burden .entry)) (now (solids .entry)) (now (water .entry)) m (now (void .entry)) (now (stress .entry)) k (now («conductivity_void» .entry)) (now (conductivity .entry)) → now (water .exit) ≡ waterTurned site s (run.turn site s (longestUpTo site s most)) (now (water .entry))) ⌝ }
-    ensures { λ _. ⌜ ((site : Site) (s : State) → Shows site s n top bottom load (now (burden .entry)) (now (solids .entry)) (now (water .entry)) m (now (void .entry)) (now (stress .entry)) k (now («conductivity_void» .entry)) (now (conductivity .entry)) → now (above .exit) ≡ flowsTurned site s n (longestUpTo site s most) (now (above .entry))) ⌝ }
-    ensures { λ _. ⌜ (now (excess .exit) ≡ filled (now (excess .entry)) n (excessAt (points m (now (void .entry)) (now (stress .entry))) load (now (burden .entry)) (now (solids .entry)) (now (water .entry)))) × (now (resistance .exit) ≡ filled (now (resistance .entry)) n (resistanceAt (points k (now («conductivity_void» .entry)) (now (conductivity .entry))) (now (solids .entry)) (now (water .entry)))) ⌝ }
+    requires { ⌜ (length (now excess) ≡ 128) × (length (now resistance) ≡ 128) × (length (now above) ≡ 128) × (length (now water) ≡ 128) × (length (now «stress_segment») ≡ 128) × (length (now «conductivity_segment») ≡ 128) ⌝ }
+    requires { ⌜ SomeShown n top bottom (load .0) (now burden) (now solids) (now water) m (now void) (now stress) k (now «conductivity_void») (now conductivity) ⌝ }
+    ensures { λ r. ⌜ ((site : Site) (s : State) → Shows site s n top bottom (load .0) (now (burden .entry)) (now (solids .entry)) (now (water .entry)) m (now (void .entry)) (now (stress .entry)) k (now («conductivity_void» .entry)) (now (conductivity .entry)) → r ≡ turnedBy site s (run.turn site s (longestUpTo site s most))) ⌝ }
+    ensures { λ _. ⌜ ((site : Site) (s : State) → Shows site s n top bottom (load .0) (now (burden .entry)) (now (solids .entry)) (now (water .entry)) m (now (void .entry)) (now (stress .entry)) k (now («conductivity_void» .entry)) (now (conductivity .entry)) → now (water .exit) ≡ waterTurned site s (run.turn site s (longestUpTo site s most)) (now (water .entry))) ⌝ }
+    ensures { λ _. ⌜ ((site : Site) (s : State) → Shows site s n top bottom (load .0) (now (burden .entry)) (now (solids .entry)) (now (water .entry)) m (now (void .entry)) (now (stress .entry)) k (now («conductivity_void» .entry)) (now (conductivity .entry)) → now (above .exit) ≡ flowsTurned site s n (longestUpTo site s most) (now (above .entry))) ⌝ }
+    ensures { λ _. ⌜ (now (excess .exit) ≡ filled (now (excess .entry)) n (excessAt (points m (now (void .entry)) (now (stress .entry))) (load .0) (now (burden .entry)) (now (solids .entry)) (now (water .entry)))) × (now (resistance .exit) ≡ filled (now (resistance .entry)) n (resistanceAt (points k (now («conductivity_void» .entry)) (now (conductivity .entry))) (now (solids .entry)) (now (water .entry)))) ⌝ }
+    ensures { λ _. ⌜ Segments n m (now («stress_segment» .entry)) (now («stress_segment» .exit)) ⌝ }
+    ensures { λ _. ⌜ Segments n k (now («conductivity_segment» .entry)) (now («conductivity_segment» .exit)) ⌝ }
 {
     read::read_elements(
         n,

@@ -2,4 +2,5 @@
 pub mod FieldLaws
 pub mod Checking
 pub mod Starting
-pub mod OpeningLaws
+pub mod SoundDescription
+pub mod Reading

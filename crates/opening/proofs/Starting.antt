@@ -1,126 +1,100 @@
--- What the start of a sound description reads of it, and the water that it has.
+-- The water of a start, as arrays hold it.
 use Prim.Native.Nat.{ℕ, _≤_, _<_}
 use native.Mathlib.Omega.{arith}
 use borrow.Author.Tests.{eq-eqb, ne-eqb}
+use lib.Dec.{eqb, ltb, eqb→eq}
+use borrow.Author.Tests.{ltb-true, ltb-false}
 use lib.IntN.{pos}
 use lib.ListN.{getD, length}
-use mathlib.Core.Bool.{Bool, true}
+use mathlib.Core.Bool.{Bool, true, false, _||_}
 use mathlib.Core.List.{List, map}
-use mathlib.Core.Option.{Option, some}
+use mathlib.Core.Option.{some}
 use mathlib.Core.Path.{_≡_, refl, sym, ap, _∙_}
-use Rattle.element.specs.Elements.{mostBurden}
-use Rattle.job.specs.SoundHeader.{SoundHeader}
-use Rattle.laws.specs.Every.{Every, every-at, every-tabulate}
-use Rattle.laws.specs.Excess.{burdens-most}
-use Rattle.laws.specs.Lengths.{burdens-length}
-use Rattle.layer.specs.Weights.{burdenAt}
-use Rattle.numbers.specs.Arrays.{firstPlaces, overlaid, filled, zeros}
-use Rattle.numbers.specs.Filled.{first-length, getD-filled, overlaid-overlaid}
-use Rattle.opening.specs.Accepted.{alone-long}
-use Rattle.opening.specs.Causes.{describedAnswer}
-use Rattle.opening.specs.OpenedRecord.{opening-load}
-use Rattle.opening.specs.declared.causes.Checked.the-variants.{Sound}
-use Rattle.opening.proofs.Checking.{sound-fields, sound-compressibility, sound-table}
-use Rattle.opening.proofs.FieldLaws.{kept-header, kept-sizes}
-use Rattle.rules.specs.Curve.{points, compressibilitySound}
-use Rattle.rules.specs.Job.{Description, givenWater, headerKept, jobSite, describedRecord}
-use Rattle.rules.specs.Layer.{Site, burdens}
-use Rattle.rules.specs.Opening.{descriptionWater}
-use Rattle.rules.specs.Quantities.{solidsLimits, stressLimits}
-use Rattle.rules.specs.Record.{recordSite}
-use Rattle.rules.specs.Start.{openingLoad, restingFrom}
+use Rattle.laws.specs.Every.{every-at}
+use Rattle.numbers.specs.Arrays.{tabulate, firstPlaces, overlaid, filled}
+use Rattle.numbers.specs.Filled.{first-length, getD-overlaid, getD-overlaid-past, length-overlaid, length-tabulate, overlaid-overlaid, overlaid-take, tabulate-cong, tabulate-getD}
+use Rattle.numbers.specs.Indices.{all-tabulate}
+use Rattle.numbers.specs.Indices as indices
+use Rattle.numbers.specs.Lists.{all}
+use Rattle.numbers.specs.Searches.{passed}
+use Rattle.opening.specs.Accepting.{Starting, waterStarted}
+use Rattle.rules.specs.Curve.{Point}
+use Rattle.rules.specs.Layer.{Site}
+use Rattle.rules.specs.Quantities.{waterLimits}
+use Rattle.rules.specs.Start.{restingFrom, startWater}
 use Rattle.rules.specs.Step.{allOnCurve}
-use Rattle.holdings.specs.Sizes.{SoundSizes}
-use Rattle.start.proofs.Opened.{burdens-in, given-start, resting-start, resting-array}
+use Rattle.start.proofs.Heights.{heights-few, heights-most}
+use Rattle.start.proofs.Opened.{given-start, resting-start, resting-array}
 use Rattle.start.specs.Rest.{allOrNone, restingHeights}
-use Rattle.table.proofs.Laws.{tabled}
 
-module _ (d : Description) (header : headerKept d ≡ true) (sound : describedAnswer d ≡ Sound) where
-  abbrev kept : SoundHeader d.header.top d.header.bottom d.header.elements (d .header .«compressibility_points») (d .header .«conductivity_points») (d .header .«table_points») d.header.start d.header.gravity
-  kept = kept-header d header
+-- ---- the water that is found
 
-  abbrev sizes : SoundSizes d.header.elements (pos (d .header .«top_level»)) (pos (d .header .«bottom_level»)) d.solids d.water
-  sizes = kept-sizes d (sound-fields d sound)
+module _ {site : Site} {n : ℕ} {solids burden : List ℕ} {curve : List Point} (held : Starting site n solids burden curve) (start : ℕ)
+    (given : List ℕ) (load : ℕ) where
+  -- start 0: what is given, by the test that all of it is on the curve
+  pub given-found : start ≡ 0 → {on : Bool} → on ≡ allOnCurve curve (firstPlaces n solids) (map pos given) →
+      startWater site start given load ≡ allOrNone on given
+  given-found e is =
+      given-start site start given load (eq-eqb start 0 e) ∙
+      ap (λ (on : Bool). allOrNone on given) (rw (held .solids-held, held .curve-held) (sym is))
 
-  -- its solids keep their limits, and its first curve is sound
-  pub solids-kept : (j : ℕ) → j < d.header.elements → (0 < getD d.solids j 0) × (getD d.solids j 0 ≤ solidsLimits .most)
-  solids-kept j h = (omega (arith, sizes .solids-least j h), sizes .solids-most j h)
+  -- start 1: what rests
+  pub resting-found : (start ≡ 0 → ⊥) → startWater site start given load ≡ restingFrom site load (firstPlaces n burden) (firstPlaces n solids)
+  resting-found e =
+      resting-start site start given load (ne-eqb start 0 e) ∙ rw (held .burdens-held, held .solids-held)
 
-  pub curve-sound : compressibilitySound (points (d .header .«compressibility_points») (d .compressibilityVoid) (d .compressibilityStress)) ≡ true
-  unfolding jobSite describedRecord recordSite
-  curve-sound = sound-compressibility d sound
+-- ---- the array that is left
 
-  -- the opening load is a stress
-  pub load-most : getD (d .tableLoad) 0 0 ≤ stressLimits .most
-  unfolding jobSite describedRecord recordSite
-  load-most =
-      tabled (d .header .«table_points») (d .tableTime) (d .tableLoad) (sound-table d sound) .load-high 0 (omega (arith, kept .table-kept .least))
+module _ (n : ℕ) (before : List ℕ) (few : n ≤ length before) where
+  -- an array's own first places change nothing
+  own-places : overlaid (firstPlaces n before) before ≡ before
+  unfolding firstPlaces
+  own-places = rw (tabulate-getD n before 0 few) (overlaid-take n before)
 
-  -- the given water fills an array
-  pub water-long : d.water ≡ overlaid (givenWater d) (zeros 128) → length d.water ≡ 128
-  unfolding givenWater
-  water-long alone = alone-long d.header.elements d.water (kept .elements-kept .most) alone
+  -- start 0
+  pub given-left : (on : Bool) → before ≡ waterStarted (allOrNone on (firstPlaces n before)) before
+  unfolding allOrNone waterStarted
+  given-left true = sym own-places
+  given-left false = refl
 
-  -- start 0, by its test
-  pub given-water : {on answer : Bool} → d.header.start ≡ 0 →
-      on ≡ allOnCurve (points (d .header .«compressibility_points») (d .compressibilityVoid) (d .compressibilityStress))
-      (firstPlaces d.header.elements d.solids) (map pos (firstPlaces d.header.elements d.water)) →
-      on ≡ answer → descriptionWater d ≡ allOrNone answer (givenWater d)
-  unfolding descriptionWater givenWater jobSite describedRecord recordSite
-  given-water e is tested =
-      given-start (jobSite d) d.header.start (givenWater d) (openingLoad (jobSite d)) (eq-eqb d.header.start 0 e) ∙
-      ap (λ (on : Bool). allOrNone on (givenWater d)) (sym is ∙ tested)
+  -- start 1: heights from the lowest up, as far as the elements rest
+  module _ (curve : List Point) (load : ℕ) (burden solids after : List ℕ)
+      (is : after ≡ overlaid (restingHeights curve load (firstPlaces n burden) (firstPlaces n solids)) before) where
+    abbrev heights : List ℕ
+    heights = restingHeights curve load (firstPlaces n burden) (firstPlaces n solids)
 
-  -- the burdens of start 1, in an array
-  module _ (burden : List ℕ) (is : burden ≡ filled (zeros 128) d.header.elements (burdenAt d.header.gravity d.header.elements d.solids)) where
-    burden-at : (j : ℕ) → j < d.header.elements → getD burden j 0 ≡ getD (burdens d.header.gravity (firstPlaces d.header.elements d.solids)) j 0
-    unfolding burdenAt
-    burden-at j h = rw is (getD-filled _ _ _ _ _ h)
+    no-more : length heights ≤ n
+    no-more = omega (arith, heights-few curve load (firstPlaces n burden) (firstPlaces n solids), first-length n burden)
 
-    pub burden-most : (j : ℕ) → j < d.header.elements → getD burden j 0 ≤ mostBurden
-    unfolding firstPlaces
-    burden-most j h =
-        let solid : Every (λ S. S ≤ 100_000_000) (firstPlaces d.header.elements d.solids) =
-        every-tabulate (λ S. S ≤ 100_000_000) d.header.elements (λ i. getD d.solids i 0) (λ i k. sizes .solids-most i k) in
-        let few : length (firstPlaces d.header.elements d.solids) ≤ 128 = omega (arith, first-length d.header.elements d.solids, kept .elements-kept .most) in
-        let most = every-at (λ B. B ≤ 500_310_000) (burdens d.header.gravity (firstPlaces d.header.elements d.solids)) j 0
-        (burdens-most d.header.gravity (kept .gravity-kept .most) _ solid few)
-        (omega (arith, burdens-length d.header.gravity (firstPlaces d.header.elements d.solids), first-length d.header.elements d.solids)) in
-        omega (arith, burden-at j h)
+    pub resting-long : length after ≡ length before
+    resting-long = ap (λ (l : List ℕ). length l) is ∙ length-overlaid heights before (omega (arith, no-more))
 
-    -- start 1, of that array
-    resting-listed : (d.header.start ≡ 0 → ⊥) →
-        descriptionWater d ≡ restingFrom (jobSite d) (getD (d .tableLoad) 0 0) (firstPlaces d.header.elements burden) (firstPlaces d.header.elements d.solids)
-    unfolding descriptionWater jobSite describedRecord recordSite
-    resting-listed e =
-        resting-start (jobSite d) d.header.start (givenWater d) (openingLoad (jobSite d)) (ne-eqb d.header.start 0 e) ∙
-        ap (λ (load : ℕ). restingFrom (jobSite d) load (burdens d.header.gravity (firstPlaces d.header.elements d.solids)) (firstPlaces d.header.elements d.solids)) (opening-load d (kept .table-kept .least)) ∙
-        ap (λ (Bs : List ℕ). restingFrom (jobSite d) (getD (d .tableLoad) 0 0) Bs (firstPlaces d.header.elements d.solids))
-        (burdens-in d.header.gravity d.header.elements d.solids burden burden-at)
+    pub resting-most : ((j : ℕ) → j < n → getD before j 0 ≤ waterLimits .most) → (j : ℕ) → j < n → getD after j 0 ≤ waterLimits .most
+    resting-most most j h = rw is (go (ltb j (length heights)) refl)
+      where
+        go : (below : Bool) → ltb j (length heights) ≡ below → getD (overlaid heights before) j 0 ≤ waterLimits .most
+        go true e =
+            rw (getD-overlaid heights before j 0 (ltb-true _ _ e))
+            (every-at (λ W. W ≤ waterLimits .most) heights j 0 (heights-most curve load (firstPlaces n burden) (firstPlaces n solids)) (ltb-true _ _ e))
+        go false e = rw (getD-overlaid-past heights before j 0 (ltb-false _ _ e)) (most j h)
 
-    -- start 1, by its test
-    module _ (later : d.header.start ≡ 0 → ⊥) (found : Bool) (array : List ℕ)
-        (each : (site : Site) → site .compressibility ≡ points (d .header .«compressibility_points») (d .compressibilityVoid) (d .compressibilityStress) →
-        restingFrom site (getD (d .tableLoad) 0 0) (firstPlaces d.header.elements burden) (firstPlaces d.header.elements d.solids) ≡
-        allOrNone found (firstPlaces d.header.elements array)) where
-      here : restingFrom (jobSite d) (getD (d .tableLoad) 0 0) (firstPlaces d.header.elements burden) (firstPlaces d.header.elements d.solids) ≡
-          allOrNone found (firstPlaces d.header.elements array)
-      unfolding jobSite describedRecord recordSite
-      here = each (jobSite d) refl
+    -- all rest
+    pub resting-left : (site : Site) → site .compressibility ≡ curve →
+        restingFrom site load (firstPlaces n burden) (firstPlaces n solids) ≡ some (firstPlaces n after) → after ≡ overlaid (firstPlaces n after) before
+    resting-left site same found =
+        resting-array site load (firstPlaces n burden) (firstPlaces n solids) (firstPlaces n after) before after found (rw same is)
 
-      pub resting-water : {answer : Bool} → found ≡ answer → descriptionWater d ≡ allOrNone answer (firstPlaces d.header.elements array)
-      resting-water tested = resting-listed later ∙ here ∙ ap (λ (b : Bool). allOrNone b (firstPlaces d.header.elements array)) tested
+    -- one does not, and the heights are taken back, where no water was given
+    pub cleared-left : all (λ w. eqb w 0) (firstPlaces n before) ≡ true → filled after n (λ _. 0) ≡ before
+    unfolding filled firstPlaces
+    cleared-left dry =
+        let each : (j : ℕ) → j < n → 0 ≡ getD before j 0 = λ j h.
+        sym (eqb→eq (getD before j 0) 0
+        (indices.every-at n (λ i. eqb (getD before i 0) 0) (rw (all-tabulate (λ w. eqb w 0) n (λ i. getD before i 0)) at (passed dry)) j h)) in
+        ap (λ (l : List ℕ). overlaid (tabulate n (λ _. 0)) l) is ∙
+        overlaid-overlaid (tabulate n (λ _. 0)) heights before (omega (arith, no-more, length-tabulate {A = ℕ} n (λ _. 0))) ∙
+        ap (λ (l : List ℕ). overlaid l before) (tabulate-cong n (λ _. 0) (λ j. getD before j 0) each) ∙ own-places
 
-      -- the array has nothing but that water
-      pub resting-places : found ≡ true → d.water ≡ overlaid (givenWater d) (zeros 128) →
-          array ≡ overlaid (restingHeights (points (d .header .«compressibility_points») (d .compressibilityVoid) (d .compressibilityStress))
-          (getD (d .tableLoad) 0 0) (firstPlaces d.header.elements burden) (firstPlaces d.header.elements d.solids)) d.water →
-          array ≡ overlaid (firstPlaces d.header.elements array) (zeros 128)
-      unfolding allOrNone givenWater jobSite describedRecord recordSite
-      resting-places tested alone is =
-          resting-array (jobSite d) (getD (d .tableLoad) 0 0) (firstPlaces d.header.elements burden) (firstPlaces d.header.elements d.solids)
-          (firstPlaces d.header.elements array) d.water array
-          (here ∙ ap (λ (b : Bool). allOrNone b (firstPlaces d.header.elements array)) tested) is ∙
-          ap (overlaid (firstPlaces d.header.elements array)) alone ∙
-          overlaid-overlaid (firstPlaces d.header.elements array) (givenWater d) (zeros 128)
-          (omega (arith, first-length d.header.elements array, first-length d.header.elements d.water))
+-- no water is given but in start 0
+pub dry-given : (start : ℕ) (dry : Bool) → (start ≡ 0 → ⊥) → (eqb start 0 || dry) ≡ true → dry ≡ true
+dry-given start dry e t = rw (ne-eqb start 0 e) at t

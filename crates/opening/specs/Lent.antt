@@ -1,40 +1,25 @@
--- A description by its header and its arrays, as the functions of an opening are lent it; and what they leave in the arrays.
+-- A description by its header and its arrays, as the functions of an opening are lent it; and the progress of a layer just opened.
 use Prim.Native.Nat.{ℕ}
-use mathlib.Core.List.{List}
-use mathlib.Core.Path.{_≡_}
-use Rattle.numbers.specs.Arrays.{firstPlaces, overlaid, zeros}
-use Rattle.opening.specs.declared.causes.Checked.{Checked}
-use Rattle.opening.specs.declared.causes.Checked.the-variants.{Sound, Refused}
-use Rattle.rules.specs.Job.{Description, described}
-use Rattle.rules.specs.Opening.{openedRecord, opening}
-use Rattle.rules.specs.declared.answers.Answer.{Answer}
-use Rattle.rules.specs.declared.answers.Answer.the-variants as answer
+use lib.IntN.{pos}
+use mathlib.Core.List.{List, []}
+use Rattle.rules.specs.Job.{Description}
+use Rattle.rules.specs.Record.{progressOf}
 use Rattle.rules.specs.declared.job.Header.{Header}
+use Rattle.rules.specs.declared.record.Progress.{Progress}
 
-abbrev pub descriptionOf : Header → (solids water compressibilityStress compressibilityVoid conductivityVoid conductivity tableTime tableLoad : List ℕ) →
-    Description
-descriptionOf header solids water compressibilityStress compressibilityVoid conductivityVoid conductivity tableTime tableLoad = record {
+abbrev pub descriptionOf : Header → (void stress conductivityVoid conductivity solids water tableTime tableLoad : List ℕ) → Description
+descriptionOf header void stress conductivityVoid conductivity solids water tableTime tableLoad = record {
   header = header;
   solids = solids;
   water = water;
-  compressibilityStress = compressibilityStress;
-  compressibilityVoid = compressibilityVoid;
+  compressibilityVoid = void;
+  compressibilityStress = stress;
   conductivityVoid = conductivityVoid;
   conductivity = conductivity;
   tableTime = tableTime;
   tableLoad = tableLoad;
 }
 
--- what opening answers, by what its tests found
-unfoldable pub answerOf : Checked → Answer
-answerOf Sound = answer.Done
-answerOf (Refused cause) = answer.Refused cause
-
--- the arrays of the record that opening leaves: its water is that of the start, in the first places, and the other places are 0
-pub record Leaves (job solids water compressibilityStress compressibilityVoid conductivityVoid conductivity tableTime tableLoad : List ℕ) :
-    Type 0 where
-  pub left : (opening job) .after ≡
-      openedRecord
-      (descriptionOf ((described job) .header) solids water compressibilityStress compressibilityVoid conductivityVoid conductivity tableTime tableLoad)
-      (firstPlaces ((described job) .header .elements) water)
-  pub alone : water ≡ overlaid (firstPlaces ((described job) .header .elements) water) (zeros 128)
+-- the progress of a layer just opened under a load
+abbrev pub progressAt : (load : ℕ) → Progress
+progressAt load = progressOf (record { water = []; load = pos load; clock = 0; topOutflow = pos 0; bottomOutflow = pos 0 })

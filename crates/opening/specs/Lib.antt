@@ -1,6 +1,8 @@
--- What the contracts of an opening cite beside the rules; what a refused one leaves; and the record of an accepted job by its parts.
-pub mod Causes
+-- What the contracts of an opening cite beside the rules; what a refused one leaves; and what an opened job says of its opening.
 pub mod Lent
+pub mod Causes
+pub mod Accepting
+pub mod AcceptingLaws
+pub mod Opened
+pub mod OpenedLaws
 pub mod Blank
-pub mod OpenedRecord
-pub mod Accepted

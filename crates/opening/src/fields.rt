@@ -2,31 +2,48 @@
 ghost use mathlib.Core.List.{List};
 ghost use mathlib.Core.Path.{_≡_};
 ghost use Prim.Native.Nat.{ℕ, _≤_};
+ghost use Rattle.opening.specs.Causes.{fieldsAnswer};
 ghost use Rattle.opening.specs.Lent.{descriptionOf};
-ghost use Rattle.rules.specs.Job.{fieldsSound};
 use holdings::sizes;
 use rules::job::Header;
 use rules::quantities::Budget;
 use rules::quantities::Clock;
 use rules::quantities::Head;
-use rules::quantities::Solids;
-use rules::quantities::Water;
+use rules::quantities::Kind;
+use rules::quantities::TestedClock;
+use rules::quantities::TestedHead;
 
-// Whether levels, end, budget, solids and water keep their limits, and fields that must be 0 are.
-pub fn fields_sound<'a>(header: Header, solids: &'a [u64; 128], water: &'a [u64; 128]) -> bool
+// The levels of a description whose fields keep their limits and are 0 where they must be, or that some do not.
+pub enum Fields {
+    Within(Head, Head),
+    Outside,
+}
+
+// Tests levels, end, budget, solids and water. The arrays of the curves and of the table do not matter.
+pub fn check_fields<'a>(header: Header, solids: &'a [u64; 128], water: &'a [u64; 128]) -> Fields
     requires { ⌜ header .elements ≤ 128 ⌝ }
-    ensures { λ r. ⌜ ((compressibilityStress compressibilityVoid conductivityVoid conductivity tableTime tableLoad : List ℕ) → r ≡ fieldsSound (descriptionOf header (now (solids .entry)) (now (water .entry)) compressibilityStress compressibilityVoid conductivityVoid conductivity tableTime tableLoad)) ⌝ }
+    ensures { λ r. ⌜ ((void stress conductivityVoid conductivity tableTime tableLoad : List ℕ) → r ≡ fieldsAnswer (descriptionOf header void stress conductivityVoid conductivity (now (solids .entry)) (now (water .entry)) tableTime tableLoad)) ⌝ }
 {
     let n = header.elements;
     let bottom = header.bottom;
-    let bottom_level = header.bottom_level;
     let start = header.start;
-    Head::holds(header.top_level)
-        & Head::holds(bottom_level)
-        & ((bottom != 0) | (bottom_level == 0))
-        & sizes::all_within(n, Solids::LEAST, Solids::MOST, solids)
-        & sizes::all_within(n, Water::LEAST, Water::MOST, water)
-        & Clock::holds(header.end)
+    let TestedHead::Within(top_level) = Head::new(header.top_level) else {
+        return Fields::Outside;
+    };
+    let TestedHead::Within(bottom_level) = Head::new(header.bottom_level) else {
+        return Fields::Outside;
+    };
+    let TestedClock::Within(_) = Clock::new(header.end) else {
+        return Fields::Outside;
+    };
+    let sound = ((bottom != 0) | (header.bottom_level == 0))
+        & sizes::all_within(n, Kind::Solids, solids)
+        & sizes::all_within(n, Kind::Water, water)
         & Budget::holds(header.budget)
-        & ((start == 0) | sizes::all_within(n, 0, 0, water))
+        & ((start == 0) | sizes::all_within(n, Kind::Zero, water));
+    if sound {
+        Fields::Within(top_level, bottom_level)
+    } else {
+        Fields::Outside
+    }
 }

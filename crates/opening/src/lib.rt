@@ -1,26 +1,162 @@
-// Opening: from a job's bytes to a record.
+// Opening: from a job's bytes, or from what they describe, to a record.
+ghost use lib.ListN.{length};
 ghost use mathlib.Core.Path.{_≡_};
-ghost use Rattle.job.specs.Pairs.{Blank};
-ghost use Rattle.opening.specs.Lent.{Leaves, answerOf};
-ghost use Rattle.opening.specs.declared.causes.Checked.the-variants.{Sound};
-ghost use Rattle.rules.specs.Opening.{opening, refusedOpening};
+ghost use Rattle.job.specs.Pairs.{Blank, Pairs};
+ghost use Rattle.opening.specs.Accepting.{acceptedBurden};
+ghost use Rattle.opening.specs.Lent.{descriptionOf};
+ghost use Rattle.opening.specs.Opened.{openedJob, leftDescription, leftBurden};
+ghost use Rattle.rules.specs.Job.{Description};
+ghost use Rattle.rules.specs.Opening.{opening, openingNumbers, refusedOpening, accepted, acceptedWater};
+ghost use Rattle.rules.specs.Outcome.{answerNumbers};
+ghost use Rattle.rules.specs.Record.{recordOf};
+ghost use Rattle.rules.specs.declared.answers.Answer.the-variants.{Done};
 use crate::causes::Checked;
-use job::description;
+use holdings::balance;
 use job::framing;
 use job::framing::Framed;
 use job::header;
+use job::pairs;
+use layer::weights;
+use rules::answers::Acceptance;
 use rules::answers::Answer;
 use rules::answers::Answered;
 use rules::answers::Refusal;
-use rules::quantities::Clock;
-use rules::quantities::Head;
-use rules::quantities::Pressure;
+use rules::job::Header;
+use rules::record::Frame;
+use rules::record::Layer;
+use rules::record::Progress;
 use rules::record::Record;
+use rules::record::Soil;
 
 pub mod causes;
 pub mod fields;
 pub mod record;
 pub mod starts;
+
+// What an opened job gives beside its arrays: its header and the numbers of its layer, or a refusal.
+pub enum Opened {
+    Accepted(Header, Frame, Progress),
+    Refused(Refusal),
+}
+
+// From a description to the numbers of its layer: the causes 3 and 5 to 9, in their order. An accepted one has the water of its
+// start put in place of the water that is given, and its burdens worked out.
+pub fn accept<'a>(
+    header: Header,
+    void: &'a [u64; 64],
+    stress: &'a [u64; 64],
+    conductivity_void: &'a [u64; 64],
+    conductivity: &'a [u64; 64],
+    solids: &'a [u64; 128],
+    water: &mut [u64; 128],
+    table_time: &'a [u64; 64],
+    table_load: &'a [u64; 64],
+    burden: &mut [u64; 128],
+) -> Acceptance
+    ghost { Description }
+    requires { λ d. ⌜ descriptionOf header (now void) (now stress) (now «conductivity_void») (now conductivity) (now solids) (now water) (now «table_time») (now «table_load») ≡ d ⌝ }
+    requires { λ _. ⌜ (length (now water) ≡ 128) × (length (now burden) ≡ 128) ⌝ }
+    ensures { λ d r. ⌜ r ≡ accepted d ⌝ }
+    ensures { λ d _. ⌜ now (water .exit) ≡ acceptedWater d ⌝ }
+    ensures { λ d _. ⌜ now (burden .exit) ≡ acceptedBurden d (now (burden .entry)) ⌝ }
+{
+    if !header::header_kept(header) {
+        return Acceptance::Refused(Refusal::HeaderOutside);
+    }
+    let checked = causes::described_cause(
+        header,
+        void,
+        stress,
+        conductivity_void,
+        conductivity,
+        solids,
+        water,
+        table_time,
+        table_load,
+    );
+    match checked {
+        Checked::Refused(cause) => Acceptance::Refused(cause),
+        Checked::Sound(top_level, bottom_level) => {
+            let n = header.elements;
+            weights::burdens(n, header.gravity, solids, burden);
+            let m = header.compressibility_points;
+            let load = table_load[0];
+            if !starts::start_water(
+                header.start,
+                n,
+                load,
+                burden,
+                solids,
+                m,
+                void,
+                stress,
+                water,
+            ) {
+                return Acceptance::Refused(Refusal::StartOffCurve);
+            }
+            let starting = balance::total_water(n, water);
+            Acceptance::Accepted(
+                record::frame(header, top_level, bottom_level, starting),
+                record::opening_progress(load),
+            )
+        }
+    }
+}
+
+// Opens a job, whatever its bytes, into arrays of zeros.
+pub fn open_into<'a>(
+    job: &'a [u8],
+    void: &mut [u64; 64],
+    stress: &mut [u64; 64],
+    conductivity_void: &mut [u64; 64],
+    conductivity: &mut [u64; 64],
+    solids: &mut [u64; 128],
+    water: &mut [u64; 128],
+    table_time: &mut [u64; 64],
+    table_load: &mut [u64; 64],
+    burden: &mut [u64; 128],
+) -> Opened
+    requires { ⌜ Blank (now solids) (now water) (now void) (now stress) (now «conductivity_void») (now conductivity) (now «table_time») (now «table_load») ⌝ }
+    requires { ⌜ length (now burden) ≡ 128 ⌝ }
+    ensures { λ r. ⌜ r ≡ openedJob (now (job .entry)) ⌝ }
+    ensures { λ _. ⌜ Pairs (leftDescription (now (job .entry))) (now (solids .exit)) (now (water .exit)) (now (void .exit)) (now (stress .exit)) (now («conductivity_void» .exit)) (now (conductivity .exit)) (now («table_time» .exit)) (now («table_load» .exit)) ⌝ }
+    ensures { λ _. ⌜ now (burden .exit) ≡ leftBurden (now (job .entry)) (now (burden .entry)) ⌝ }
+{
+    let framed = framing::frame(job);
+    match framed {
+        Framed::Refused(cause) => Opened::Refused(cause),
+        Framed::Sound(header) => {
+            pairs::read_pairs(
+                job,
+                header,
+                solids,
+                water,
+                void,
+                stress,
+                conductivity_void,
+                conductivity,
+                table_time,
+                table_load,
+            );
+            let accepted = accept(
+                header,
+                void,
+                stress,
+                conductivity_void,
+                conductivity,
+                solids,
+                water,
+                table_time,
+                table_load,
+                burden,
+            );
+            match accepted {
+                Acceptance::Refused(cause) => Opened::Refused(cause),
+                Acceptance::Accepted(frame, progress) => Opened::Accepted(header, frame, progress),
+            }
+        }
+    }
+}
 
 // What stands where a job is refused.
 pub fn refused(cause: Refusal) -> Answered
@@ -31,124 +167,60 @@ pub fn refused(cause: Refusal) -> Answered
     Answered { answer, after }
 }
 
-// Opens a job, whatever its bytes, into arrays of zeros: a sound one leaves the record's arrays in them.
-pub fn open_into<'a>(
-    job: &'a [u8],
-    solids: &mut [u64; 128],
-    water: &mut [u64; 128],
-    compressibility_stress: &mut [u64; 64],
-    compressibility_void: &mut [u64; 64],
-    conductivity_void: &mut [u64; 64],
-    conductivity: &mut [u64; 64],
-    table_time: &mut [u64; 64],
-    table_load: &mut [u64; 64],
-) -> Checked
-    requires { ⌜ Blank (now solids) (now water) (now «compressibility_stress») (now «compressibility_void») (now «conductivity_void») (now conductivity) (now «table_time») (now «table_load») ⌝ }
-    ensures { λ r. ⌜ (opening (now (job .entry))) .answer ≡ answerOf r ⌝ }
-    ensures { λ r. ⌜ (r ≡ Sound → Leaves (now (job .entry)) (now (solids .exit)) (now (water .exit)) (now («compressibility_stress» .exit)) (now («compressibility_void» .exit)) (now («conductivity_void» .exit)) (now (conductivity .exit)) (now («table_time» .exit)) (now («table_load» .exit))) ⌝ }
+// What stands where a job is accepted.
+pub fn done(soil: Soil, layer: Layer) -> Answered
+    ensures { λ r. ⌜ r ≡ record { answer = Done; after = recordOf soil layer } ⌝ }
 {
-    let framed = framing::frame(job);
-    if let Framed::Refused(cause) = framed {
-        return Checked::Refused(cause);
+    Answered {
+        answer: Answer::Done,
+        after: Record { soil, layer },
     }
-    description::read_pairs(
-        job,
-        solids,
-        water,
-        compressibility_stress,
-        compressibility_void,
-        conductivity_void,
-        conductivity,
-        table_time,
-        table_load,
-    );
-    let header = header::read_header(job);
-    let checked = causes::described_cause(
-        header,
-        solids,
-        water,
-        compressibility_stress,
-        compressibility_void,
-        conductivity_void,
-        conductivity,
-        table_time,
-        table_load,
-    );
-    if let Checked::Refused(cause) = checked {
-        return Checked::Refused(cause);
-    }
-    if !starts::start_water(
-        header,
-        solids,
-        water,
-        compressibility_stress,
-        compressibility_void,
-        conductivity_void,
-        conductivity,
-        table_time,
-        table_load,
-    ) {
-        return Checked::Refused(Refusal::StartOffCurve);
-    }
-    Checked::Sound
 }
 
 // Opens a job, whatever its bytes.
 pub fn open(job: &[u8]) -> Answered
     ensures { λ r. ⌜ r ≡ opening (now (job .entry)) ⌝ }
+    ensures { λ r. ⌜ answerNumbers (r .answer) ≡ openingNumbers (now (job .entry)) ⌝ }
 {
-    let mut solids = [0; 128];
-    let mut water = [0; 128];
-    let mut compressibility_stress = [0; 64];
     let mut compressibility_void = [0; 64];
+    let mut compressibility_stress = [0; 64];
     let mut conductivity_void = [0; 64];
     let mut conductivity = [0; 64];
+    let mut solids = [0; 128];
+    let mut water = [0; 128];
     let mut table_time = [0; 64];
     let mut table_load = [0; 64];
-    let checked = open_into(
+    let mut burden = [0; 128];
+    let opened = open_into(
         job,
-        &mut solids,
-        &mut water,
-        &mut compressibility_stress,
         &mut compressibility_void,
+        &mut compressibility_stress,
         &mut conductivity_void,
         &mut conductivity,
+        &mut solids,
+        &mut water,
         &mut table_time,
         &mut table_load,
+        &mut burden,
     );
-    if let Checked::Refused(cause) = checked {
-        return refused(cause);
-    }
-    let header = header::read_header(job);
-    let numbers = record::opened_numbers(header, &water, &table_load);
-    let top = numbers.top;
-    let bottom = numbers.bottom;
-    let opened = Record {
-        top,
-        bottom,
-        elements: header.elements,
-        compressibility_points: header.compressibility_points,
-        conductivity_points: header.conductivity_points,
-        table_points: header.table_points,
-        gravity: header.gravity,
-        top_level: Head(numbers.top_level),
-        bottom_level: Head(numbers.bottom_level),
-        solids,
-        water,
-        compressibility_stress,
-        compressibility_void,
-        conductivity_void,
-        conductivity,
-        table_time,
-        table_load,
-        load: Pressure(numbers.load),
-        clock: Clock(0),
-        top_outflow: 0,
-        bottom_outflow: 0,
-        starting_water: numbers.starting_water,
-    };
-    Answered {
-        answer: Answer::Done,
-        after: opened,
+    match opened {
+        Opened::Refused(cause) => refused(cause),
+        Opened::Accepted(header, frame, progress) => done(
+            Soil {
+                counts: record::curve_counts(header),
+                compressibility_void,
+                compressibility_stress,
+                conductivity_void,
+                conductivity,
+            },
+            Layer {
+                frame,
+                progress,
+                solids,
+                water,
+                table_time,
+                table_load,
+            },
+        ),
     }
 }

@@ -1,52 +1,32 @@
-// The record that stands where a job is refused, and the numbers of an opened one.
+// The numbers of an opened record, and the record that stands where a job is refused.
 ghost use lib.IntN.{pos};
-ghost use lib.ListN.{getD};
 ghost use mathlib.Core.Path.{_≡_};
-ghost use Prim.Native.Nat.{ℕ, _≤_, _<_};
-ghost use Rattle.numbers.specs.Arrays.{firstPlaces};
-ghost use Rattle.numbers.specs.Sums.{sum};
-ghost use Rattle.rules.specs.Job.{numberedFace};
-ghost use Rattle.rules.specs.Layer.{topPressure, bottomPressure};
+ghost use Prim.Native.Nat.{_≤_};
+ghost use Rattle.opening.specs.Lent.{progressAt};
+ghost use Rattle.rules.specs.Job.{countsOf, frameOf, numberedFace};
 ghost use Rattle.rules.specs.Opening.{blankRecord};
-ghost use Rattle.rules.specs.Quantities.{levelLimits, stressLimits, waterLimits};
-use holdings::balance;
+ghost use Rattle.rules.specs.Quantities.{levelLimits, stressLimits, head};
 use holdings::faces;
 use rules::job::Header;
 use rules::quantities::Clock;
 use rules::quantities::Face;
 use rules::quantities::Head;
+use rules::quantities::Outflow;
 use rules::quantities::Pressure;
+use rules::record::CurveCounts;
+use rules::record::Frame;
+use rules::record::Layer;
+use rules::record::Progress;
 use rules::record::Record;
+use rules::record::Soil;
 
-// A record that is no layer.
-pub fn blank() -> Record
-    ensures { λ r. ⌜ r ≡ blankRecord ⌝ }
+// How many points the curves of a header have.
+pub fn curve_counts(header: Header) -> CurveCounts
+    ensures { λ r. ⌜ r ≡ countsOf header ⌝ }
 {
-    let heights = [0; 128];
-    let points = [0; 64];
-    Record {
-        top: Face::Closed,
-        bottom: Face::Closed,
-        elements: 0,
-        compressibility_points: 0,
-        conductivity_points: 0,
-        table_points: 0,
-        gravity: 0,
-        top_level: Head(0),
-        bottom_level: Head(0),
-        solids: heights,
-        water: heights,
-        compressibility_stress: points,
-        compressibility_void: points,
-        conductivity_void: points,
-        conductivity: points,
-        table_time: points,
-        table_load: points,
-        load: Pressure(0),
-        clock: Clock(0),
-        top_outflow: 0,
-        bottom_outflow: 0,
-        starting_water: 0,
+    CurveCounts {
+        compressibility: header.compressibility_points,
+        conductivity: header.conductivity_points,
     }
 }
 
@@ -60,42 +40,73 @@ pub fn numbered_face(number: u8, held: Pressure) -> Face
     Face::Drained(held)
 }
 
-// What an opened record holds beside a header's counts and its arrays.
-pub struct Opened {
-    pub top: Face,
-    pub bottom: Face,
-    pub top_level: i64,
-    pub bottom_level: i64,
-    pub load: i64,
-    pub starting_water: u64,
-}
-
-// That of a header, the water of its start and the loads of its table.
-pub fn opened_numbers<'a>(
-    header: Header,
-    water: &'a [u64; 128],
-    table_load: &'a [u64; 64],
-) -> Opened
+// The numbers of a header's layer that no call changes, with its levels and its starting water.
+pub fn frame(header: Header, top_level: Head, bottom_level: Head, starting_water: u64) -> Frame
+    requires { ⌜ («top_level» ≡ head (pos (header .«top_level»))) × («bottom_level» ≡ head (pos (header .«bottom_level»))) ⌝ }
     requires { ⌜ (header .«top_level» ≤ levelLimits .most) × (header .«bottom_level» ≤ levelLimits .most) ⌝ }
-    requires { ⌜ getD (now «table_load») 0 0 ≤ stressLimits .most ⌝ }
-    requires { ⌜ (header .elements ≤ 128) × ((j : ℕ) → j < header .elements → getD (now water) j 0 ≤ waterLimits .most) ⌝ }
-    ensures { λ r. ⌜ (r .top ≡ numberedFace (header .top) topPressure) × (r .bottom ≡ numberedFace (header .bottom) (bottomPressure (pos (header .«top_level»)) (pos (header .«bottom_level»)))) ⌝ }
-    ensures { λ r. ⌜ (r .«top_level» ≡ pos (header .«top_level»)) × (r .«bottom_level» ≡ pos (header .«bottom_level»)) ⌝ }
-    ensures { λ r. ⌜ (r .load ≡ pos (getD (now («table_load» .entry)) 0 0)) × (r .«starting_water» ≡ sum (firstPlaces (header .elements) (now (water .entry)))) ⌝ }
+    ensures { λ r. ⌜ r ≡ frameOf header «starting_water» ⌝ }
 {
-    let top_level = header.top_level as i64;
-    let bottom_level = header.bottom_level as i64;
     let held = faces::bottom_pressure(top_level, bottom_level);
     let top = numbered_face(header.top, Pressure(0));
     let bottom = numbered_face(header.bottom, held);
-    let load = table_load[0] as i64;
-    let starting_water = balance::total_water(header.elements, water);
-    Opened {
+    Frame {
         top,
         bottom,
+        elements: header.elements,
+        table_points: header.table_points,
+        gravity: header.gravity,
         top_level,
         bottom_level,
-        load,
         starting_water,
     }
+}
+
+// The progress of a layer just opened under a load.
+pub fn opening_progress(load: u64) -> Progress
+    requires { ⌜ load ≤ stressLimits .most ⌝ }
+    ensures { λ r. ⌜ r ≡ progressAt load ⌝ }
+{
+    Progress {
+        load: Pressure(load as i64),
+        clock: Clock(0),
+        top_outflow: Outflow(0),
+        bottom_outflow: Outflow(0),
+    }
+}
+
+// A record that is no layer.
+pub fn blank() -> Record
+    ensures { λ r. ⌜ r ≡ blankRecord ⌝ }
+{
+    let heights = [0; 128];
+    let points = [0; 64];
+    let frame = Frame {
+        top: Face::Closed,
+        bottom: Face::Closed,
+        elements: 0,
+        table_points: 0,
+        gravity: 0,
+        top_level: Head(0),
+        bottom_level: Head(0),
+        starting_water: 0,
+    };
+    let soil = Soil {
+        counts: CurveCounts {
+            compressibility: 0,
+            conductivity: 0,
+        },
+        compressibility_void: points,
+        compressibility_stress: points,
+        conductivity_void: points,
+        conductivity: points,
+    };
+    let layer = Layer {
+        frame,
+        progress: opening_progress(0),
+        solids: heights,
+        water: heights,
+        table_time: points,
+        table_load: points,
+    };
+    Record { soil, layer }
 }

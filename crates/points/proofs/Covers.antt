@@ -1,19 +1,16 @@
 -- A rising curve covers just the void ratios between its first and its last.
 use Prim.Native.Nat.{ℕ, zero, suc, _-_, _≤_, _<_}
 use native.Mathlib.Omega.{arith}
-use lib.Dec.{T}
 use lib.ListN.{getD}
-use mathlib.Core.Bool.{Bool, true, false, _&&_}
+use mathlib.Core.Bool.{true}
 use mathlib.Core.List.{List}
-use mathlib.Core.Path.{_≡_, refl, sym, ap, _∙_}
-use Rattle.points.specs.Checks.{pointKept}
+use mathlib.Core.Path.{_≡_, refl, ap}
 use Rattle.laws.specs.Rising.{lastAbscissa, rising-on}
 use Rattle.numbers.specs.Arrays.{tabulate}
 use Rattle.numbers.specs.Filled.{length-tabulate}
-use Rattle.numbers.specs.Indices.{all-tabulate, every-cong}
-use Rattle.numbers.specs.Lists.{all, lastOr}
-use Rattle.numbers.specs.Searches.{passed, both, joined, same-test}
-use Rattle.rules.specs.Curve.{Point, points, curveAt, isOn, rising, covers}
+use Rattle.numbers.specs.Lists.{lastOr}
+use Rattle.numbers.specs.Searches.{passed, same-test}
+use Rattle.rules.specs.Curve.{Point, points, curveAt, isOn, rising}
 use Rattle.rules.specs.Quantities.{within, from_to_}
 use Rattle.rules.proofs.Falling.{firstAbscissa}
 use Rattle.rules.proofs.Limits.{within-parts, inside}
@@ -35,26 +32,12 @@ ends (suc n) xs ys h =
 
 module _ (n : ℕ) (void conductivity : List ℕ) (two : 2 ≤ n) (rises : rising (points n void conductivity) ≡ true) where
   -- x lies between the ends just where it is on the curve
-  between-ends : (x : ℕ) →
-      within (from getD void 0 0 to getD void (n - 1) 0) x && within (from getD void 0 0 to getD void (n - 1) 0) x ≡ isOn (curveAt (points n void conductivity) x)
+  pub between-ends : (x : ℕ) → within (from getD void 0 0 to getD void (n - 1) 0) x ≡ isOn (curveAt (points n void conductivity) x)
   unfolding points
   between-ends x =
       let limits = from getD void 0 0 to getD void (n - 1) 0 in
       let (first, last) = ends n void conductivity (omega arith) in
       let on = rising-on (points n void conductivity) x (passed rises) (rw (length-tabulate n (at n void conductivity)) two) in
-      same-test (within limits x && within limits x) (isOn (curveAt (points n void conductivity) x))
-      (λ t. let (l, m) = within-parts limits x (both (within limits x) (within limits x) t .0) in on .1 (rw first l, rw last m))
-      (λ t.
-      let (l, m) = on .0 t in
-      let kept : T (within limits x) = passed (inside limits x (rw first at l) (rw last at m)) in
-      joined (within limits x) (within limits x) kept kept)
-
-  pub covers-by-ends : (count : ℕ) (first stress : List ℕ) →
-      all (pointKept (from getD void 0 0 to getD void (n - 1) 0) (from getD void 0 0 to getD void (n - 1) 0)) (points count first first) ≡
-      covers (points n void conductivity) (points count first stress)
-  unfolding covers points
-  covers-by-ends count first stress =
-      let limits = from getD void 0 0 to getD void (n - 1) 0 in
-      all-tabulate (pointKept limits limits) count (at count first first) ∙
-      every-cong count _ _ (λ i _. between-ends (getD first i 0)) ∙
-      sym (all-tabulate (λ p. isOn (curveAt (points n void conductivity) (p .abscissa))) count (at count first stress))
+      same-test (within limits x) (isOn (curveAt (points n void conductivity) x))
+      (λ t. let (l, m) = within-parts limits x t in on .1 (rw first l, rw last m))
+      (λ t. let (l, m) = on .0 t in passed (inside limits x (rw first at l) (rw last at m)))

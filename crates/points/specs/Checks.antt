@@ -2,13 +2,9 @@
 use lib.Dec.{leb, ltb}
 use mathlib.Core.Bool.{Bool, _&&_}
 use Rattle.rules.specs.Curve.{Point}
-use Rattle.rules.specs.Quantities.{Limits, within, from_to_}
-use Rattle.points.specs.declared.checks.Range.{Range}
+use Rattle.rules.specs.Quantities.{Limits, within}
 use Rattle.points.specs.declared.checks.Trend.{Trend}
 use Rattle.points.specs.declared.checks.Trend.the-variants.{Falls, Rises, Later}
-
-abbrev pub limitsOf : Range → Limits
-limitsOf r = from r .least to r .most
 
 -- a point whose abscissa and ordinate keep the limits of their kinds
 abbrev pub pointKept : (abscissa ordinate : Limits) → Point → Bool

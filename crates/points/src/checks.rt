@@ -3,20 +3,12 @@ ghost use mathlib.Core.Bool.{true};
 ghost use mathlib.Core.List.{List};
 ghost use mathlib.Core.Path.{_≡_};
 ghost use Prim.Native.Nat.{ℕ, _+_, _≤_, _<_};
-ghost use Rattle.points.specs.Checks.{limitsOf, pointKept, trendKept};
+ghost use Rattle.points.specs.Checks.{pointKept, trendKept};
 ghost use Rattle.numbers.specs.Lists.{all, neighbours};
 ghost use Rattle.rules.specs.Curve.{point, points, rising, covers, compressibilitySound, conductivitySound};
+ghost use Rattle.rules.specs.Quantities.{limitsOf};
 use rules::quantities;
-use rules::quantities::Clock;
-use rules::quantities::Conductivity;
-use rules::quantities::Pressure;
-use rules::quantities::Void;
-
-// The least and the greatest number of a kind.
-pub struct Range {
-    pub least: u64,
-    pub most: u64,
-}
+use rules::quantities::Kind;
 
 // How points follow one another: on the compressibility curve, on the conductivity curve, in the load table.
 pub enum Trend {
@@ -26,11 +18,10 @@ pub enum Trend {
 }
 
 // Whether a point's abscissa and ordinate keep the limits of their kinds.
-pub fn point_kept(x: u64, y: u64, abscissa: Range, ordinate: Range) -> bool
+pub fn point_kept(x: u64, y: u64, abscissa: Kind, ordinate: Kind) -> bool
     ensures { λ r. ⌜ r ≡ pointKept (limitsOf abscissa) (limitsOf ordinate) (point x y) ⌝ }
 {
-    quantities::within(abscissa.least, abscissa.most, x)
-        && quantities::within(ordinate.least, ordinate.most, y)
+    abscissa.keeps(x) && ordinate.keeps(y)
 }
 
 // Whether two points follow one another so.
@@ -49,8 +40,8 @@ pub fn points_kept<'a>(
     n: usize,
     xs: &'a [u64; 64],
     ys: &'a [u64; 64],
-    abscissa: Range,
-    ordinate: Range,
+    abscissa: Kind,
+    ordinate: Kind,
 ) -> bool
     requires { ⌜ n ≤ 64 ⌝ }
     ensures { λ r. ⌜ r ≡ all (pointKept (limitsOf abscissa) (limitsOf ordinate)) (points n (now (xs .entry)) (now (ys .entry))) ⌝ }
@@ -85,15 +76,8 @@ pub fn compressibility_sound<'a>(n: usize, void: &'a [u64; 64], stress: &'a [u64
     requires { ⌜ n ≤ 64 ⌝ }
     ensures { λ r. ⌜ r ≡ compressibilitySound (points n (now (void .entry)) (now (stress .entry))) ⌝ }
 {
-    let voids = Range {
-        least: Void::LEAST,
-        most: Void::MOST,
-    };
-    let stresses = Range {
-        least: Pressure::LEAST,
-        most: Pressure::MOST,
-    };
-    points_kept(n, void, stress, voids, stresses) && neighbours_kept(Trend::Falls, n, void, stress)
+    points_kept(n, void, stress, Kind::Void, Kind::Stress)
+        && neighbours_kept(Trend::Falls, n, void, stress)
 }
 
 // Whether every void ratio of the first curve's points lies on the second, a rising one.
@@ -110,11 +94,16 @@ pub fn covers<'a>(
     ensures { λ r. ⌜ ((stress : List ℕ) → r ≡ covers (points n (now (void .entry)) (now (conductivity .entry))) (points «first_n» (now («first_void» .entry)) stress)) ⌝ }
 {
     let last = n - 1;
-    let voids = Range {
-        least: void[0],
-        most: void[last],
-    };
-    points_kept(first_n, first_void, first_void, voids, voids)
+    let least = void[0];
+    let most = void[last];
+    let mut i: usize = 0;
+    while i < first_n {
+        if !quantities::within(least, most, first_void[i]) {
+            return false;
+        }
+        i += 1;
+    }
+    true
 }
 
 // Cause 7: whether the conductivity curve is sound and covers the first.
@@ -130,15 +119,7 @@ pub fn conductivity_sound<'a>(
     requires { ⌜ «first_n» ≤ 64 ⌝ }
     ensures { λ r. ⌜ r ≡ conductivitySound (points n (now (void .entry)) (now (conductivity .entry))) (points «first_n» (now («first_void» .entry)) (now («first_stress» .entry))) ⌝ }
 {
-    let voids = Range {
-        least: Void::LEAST,
-        most: Void::MOST,
-    };
-    let conductivities = Range {
-        least: Conductivity::LEAST,
-        most: Conductivity::MOST,
-    };
-    if !points_kept(n, void, conductivity, voids, conductivities) {
+    if !points_kept(n, void, conductivity, Kind::Void, Kind::Conductivity) {
         return false;
     }
     if !neighbours_kept(Trend::Rises, n, void, conductivity) {

@@ -8,6 +8,7 @@ use lib.ListN.{length, getD, length-append}
 use lib.Seq.{sets}
 use mathlib.Core.List.{List, [], _∷_, _++_, append-nil, append-assoc}
 use mathlib.Core.Path.{_≡_, refl, sym, ap, _∙_}
+use Rattle.element.specs.Elements.{mostExcess}
 use Rattle.encoding.specs.Stores.{sets-append}
 use Rattle.numbers.specs.Arrays.{tabulate, firstPlaces}
 use Rattle.numbers.specs.Bytes.{bytes}
@@ -15,15 +16,20 @@ use Rattle.numbers.specs.Filled.{first-length}
 use Rattle.numbers.specs.Sums.{sum, sum-append}
 use Rattle.rules.specs.Curve.{Point, valueOf}
 use Rattle.rules.specs.Layer.{height, voidRatio, effectiveStress}
+use Rattle.rules.specs.Quantities.{elementLimits, solidsLimits, waterLimits}
 use Rattle.rules.specs.Result.{word, signedWord, elementWords, porePressure, elementBytes, elementsBytes}
 
 -- the height of all below an element: 128 elements of the greatest height
 abbrev pub mostHeight : ℕ
-mostHeight = 140_800_000_000
+mostHeight = elementLimits .most * (solidsLimits .most + waterLimits .most)
 
--- pore pressure, above and below zero
+-- the pressure of a head between two levels, above and below zero
+abbrev pub mostHeadPressure : ℕ
+mostHeadPressure = 1_962_000_000
+
+-- and pore pressure
 abbrev pub mostPore : ℕ
-mostPore = 4_482_000_000
+mostPore = mostExcess + mostHeadPressure
 
 -- five stores, one after the other
 pub words-stored : (l a b c d e : List ℕ) (at W E effective : ℕ) (pore : ℤ) → a ≡ sets l at (word W) → b ≡ sets a (at + 8) (word E) →

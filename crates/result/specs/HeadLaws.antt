@@ -7,13 +7,14 @@ use lib.Seq.{sets}
 use mathlib.Core.List.{List, [], _∷_, _++_}
 use mathlib.Core.Path.{_≡_, refl}
 use Rattle.numbers.specs.Bytes.{bytes}
+use Rattle.rules.specs.Quantities.{elementLimits}
 use Rattle.rules.specs.Result.{headBytes}
 use Rattle.rules.specs.Run.{stopNumber}
 use Rattle.rules.specs.declared.answers.Stop.{Stop}
 use Rattle.rules.specs.declared.answers.Stop.the-variants.{AtEnd, BudgetUsed, NoStep, OffCurve}
 
 -- the head's length
-pub length-head : (stop : Stop) (elements clock steps : ℕ) (load topOutflow bottomOutflow settlement : ℤ) →
+pub length-head : (stop : Stop) (elements clock steps load : ℕ) (topOutflow bottomOutflow settlement : ℤ) →
     length (headBytes stop elements clock steps load topOutflow bottomOutflow settlement) ≡ 56
 unfolding headBytes bytes
 length-head stop elements clock steps load topOutflow bottomOutflow settlement = refl
@@ -31,7 +32,7 @@ abbrev pub beforeClock : Stop → (elements : ℕ) → List ℕ
 beforeClock stop elements = (76 ∷ 83 ∷ 82 ∷ []) ++ bytes 2 1 ++ bytes 1 (stopNumber stop) ++ bytes 1 elements ++ bytes 1 0
 
 -- their stores, one after the other
-pub first-stores : (l : List ℕ) (stop : Stop) (number elements : ℕ) → number ≡ stopNumber stop → elements ≤ 128 →
+pub first-stores : (l : List ℕ) (stop : Stop) (number elements : ℕ) → number ≡ stopNumber stop → elements ≤ elementLimits .most →
     set (set (set (set (set (set (set (set l 0 76) 1 83) 2 82) 3 1) 4 0) 5 number) 6 elements) 7 0 ≡ sets l 0 (beforeClock stop elements)
 unfolding bytes
 first-stores l stop number elements e h =

@@ -1,6 +1,5 @@
 -- What the contracts of the result cite beside the rules, and its laws.
 pub mod Elements
-pub mod Fields
 pub mod HeadLaws
 pub mod Ranges
 pub mod ResultLaws

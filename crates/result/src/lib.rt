@@ -3,16 +3,20 @@ ghost use lib.ListN.{length};
 ghost use mathlib.Core.Bool.{true};
 ghost use mathlib.Core.Path.{_≡_};
 ghost use Prim.Native.Nat.{_≤_};
+ghost use Rattle.lent.specs.Burdens.{burdensIn};
 ghost use Rattle.numbers.specs.Arrays.{overlaid};
-ghost use Rattle.result.specs.Fields.{Others, SomeLayer, layerWith};
-ghost use Rattle.rules.specs.Record.{isLayer};
+ghost use Rattle.rules.specs.Quantities.{elementLimits};
+ghost use Rattle.rules.specs.Record.{soilOf, layerOf, recordOf, isLayer};
 ghost use Rattle.rules.specs.Refusals.{refusalNumber};
 ghost use Rattle.rules.specs.Result.{resultBytes, resultSize, result};
+ghost use Rattle.rules.specs.declared.record.Record.{Record};
 use holdings::balance;
 use layer::weights;
+use rules::answers::Ended;
 use rules::answers::Refusal;
 use rules::answers::Stop;
-use rules::quantities::Head;
+use rules::record::CurveCounts;
+use rules::record::Frame;
 use rules::record::Record;
 
 pub mod head;
@@ -27,106 +31,98 @@ pub fn withheld(cause: Refusal) -> u32
 
 // The length of a result of so many elements.
 pub fn result_size(elements: usize) -> usize
-    requires { ⌜ elements ≤ 128 ⌝ }
+    requires { ⌜ elements ≤ elementLimits .most ⌝ }
     ensures { λ r. ⌜ r ≡ resultSize elements ⌝ }
 {
     56 + 40 * elements
 }
 
-// Writes the result of a layer that has these fields, where it has room. The result says nothing of its other fields.
-pub fn write_fields<'a>(
-    elements: usize,
-    compressibility_points: usize,
-    gravity: u64,
-    top_level: Head,
+// Writes the result of a layer that is lent by its parts with its burdens, where it has room.
+pub fn write_lent<'a>(
+    counts: CurveCounts,
+    frame: Frame,
+    ended: Ended,
+    void: &'a [u64; 64],
+    stress: &'a [u64; 64],
+    conductivity_void: &'a [u64; 64],
+    conductivity: &'a [u64; 64],
     solids: &'a [u64; 128],
     water: &'a [u64; 128],
-    compressibility_stress: &'a [u64; 64],
-    compressibility_void: &'a [u64; 64],
-    load: i64,
-    clock: u64,
-    top_outflow: i64,
-    bottom_outflow: i64,
-    starting_water: u64,
-    stop: Stop,
-    steps: u64,
+    table_time: &'a [u64; 64],
+    table_load: &'a [u64; 64],
+    burden: &'a [u64; 128],
     out: &mut [u8],
 )
-    requires { ⌜ SomeLayer elements «compressibility_points» gravity «top_level» (now solids) (now water) (now «compressibility_stress») (now «compressibility_void») load clock «top_outflow» «bottom_outflow» «starting_water» ⌝ }
-    requires { ⌜ resultSize elements ≤ length (now out) ⌝ }
-    ensures { λ _. ⌜ ((others : Others) → now (out .exit) ≡ overlaid (resultBytes (layerWith elements «compressibility_points» gravity «top_level» (now (solids .entry)) (now (water .entry)) (now («compressibility_stress» .entry)) (now («compressibility_void» .entry)) load clock «top_outflow» «bottom_outflow» «starting_water» others) stop steps) (now (out .entry))) ⌝ }
+    ghost { Record }
+    requires { λ r. ⌜ recordOf (soilOf counts (now void) (now stress) (now «conductivity_void») (now conductivity)) (layerOf frame (ended .progress) (now solids) (now water) (now «table_time») (now «table_load»)) ≡ r ⌝ }
+    requires { λ r. ⌜ isLayer r ≡ true ⌝ }
+    requires { λ _. ⌜ (now burden ≡ burdensIn frame (now solids)) × (resultSize (frame .elements) ≤ length (now out)) ⌝ }
+    ensures { λ r _. ⌜ now (out .exit) ≡ overlaid (resultBytes r (ended .stop) (ended .steps)) (now (out .entry)) ⌝ }
 {
-    let left = balance::total_water(elements, water);
-    let settlement = starting_water as i64 - left as i64;
-    head::write_head(
-        out,
-        stop,
-        elements as u64,
-        clock,
-        steps,
-        load,
-        top_outflow,
-        bottom_outflow,
-        settlement,
-    );
-    let mut burden = [0u64; 128];
-    weights::burdens(elements, gravity, solids, &mut burden);
+    let n = frame.elements;
+    let m = counts.compressibility;
+    let progress = ended.progress;
+    let load = progress.load;
+    let top_level = frame.top_level;
+    let settlement = balance::settlement(frame.starting_water, balance::total_water(n, water));
+    head::write_head(out, n, ended, settlement);
     node::write_elements(
-        elements,
+        n,
         load,
         top_level,
-        &burden,
+        burden,
         solids,
         water,
-        compressibility_points,
-        compressibility_void,
-        compressibility_stress,
+        m,
+        void,
+        stress,
         out,
     );
 }
 
 // Writes a layer's result where it has room.
-pub fn write_layer(layer: Record, stop: Stop, steps: u64, out: &mut [u8])
-    requires { ⌜ isLayer layer ≡ true ⌝ }
-    requires { ⌜ resultSize (layer .elements) ≤ length (now out) ⌝ }
-    ensures { λ _. ⌜ now (out .exit) ≡ overlaid (resultBytes layer stop steps) (now (out .entry)) ⌝ }
+pub fn write_layer(r: Record, stop: Stop, steps: u64, out: &mut [u8])
+    requires { ⌜ isLayer r ≡ true ⌝ }
+    requires { ⌜ resultSize (r .layer .frame .elements) ≤ length (now out) ⌝ }
+    ensures { λ _. ⌜ now (out .exit) ≡ overlaid (resultBytes r stop steps) (now (out .entry)) ⌝ }
 {
-    let load = layer.load;
-    let clock = layer.clock;
-    let top_level = layer.top_level;
-    let top_outflow = layer.top_outflow;
-    let bottom_outflow = layer.bottom_outflow;
-    write_fields(
-        layer.elements,
-        layer.compressibility_points,
-        layer.gravity,
-        top_level,
-        &layer.solids,
-        &layer.water,
-        &layer.compressibility_stress,
-        &layer.compressibility_void,
-        load.0,
-        clock.0,
-        top_outflow,
-        bottom_outflow,
-        layer.starting_water,
+    let frame = r.layer.frame;
+    let progress = r.layer.progress;
+    let mut burden = [0u64; 128];
+    weights::burdens(frame.elements, frame.gravity, &r.layer.solids, &mut burden);
+    let ended = Ended {
         stop,
         steps,
+        progress,
+    };
+    write_lent(
+        r.soil.counts,
+        r.layer.frame,
+        ended,
+        &r.soil.compressibility_void,
+        &r.soil.compressibility_stress,
+        &r.soil.conductivity_void,
+        &r.soil.conductivity,
+        &r.layer.solids,
+        &r.layer.water,
+        &r.layer.table_time,
+        &r.layer.table_load,
+        &burden,
         out,
     );
 }
 
 // Writes any record's result to a buffer, or refuses.
-pub fn write_result(layer: Record, stop: Stop, steps: u64, out: &mut [u8]) -> u32
-    ensures { λ r. ⌜ r ≡ (result layer stop steps (now (out .entry))) .number ⌝ }
-    ensures { λ _. ⌜ now (out .exit) ≡ (result layer stop steps (now (out .entry))) .buffer ⌝ }
+pub fn write_result(r: Record, stop: Stop, steps: u64, out: &mut [u8]) -> u32
+    ensures { λ number. ⌜ number ≡ (result r stop steps (now (out .entry))) .number ⌝ }
+    ensures { λ _. ⌜ now (out .exit) ≡ (result r stop steps (now (out .entry))) .buffer ⌝ }
 {
-    if !sound::record::is_layer(layer) {
+    if !sound::record::is_layer(r) {
         return withheld(Refusal::NoLayer);
     }
-    if out.len() < result_size(layer.elements) {
+    if out.len() < result_size(r.layer.frame.elements) {
         return withheld(Refusal::ShortBuffer);
     }
-    write_layer(layer, stop, steps, out);
+    write_layer(r, stop, steps, out);
     0
 }

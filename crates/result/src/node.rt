@@ -9,12 +9,12 @@ ghost use Rattle.layer.specs.Soil.{OnSoil};
 ghost use Rattle.numbers.specs.Arrays.{firstPlaces};
 ghost use Rattle.numbers.specs.Interval.{Within};
 ghost use Rattle.result.specs.Elements.{mostHeight, mostPore};
-ghost use Rattle.rules.specs.Curve.{points, compressibilitySound, valueOf};
-ghost use Rattle.rules.specs.Layer.{effectiveStress};
-ghost use Rattle.rules.specs.Quantities.{levelLimits, solidsLimits, stressLimits, waterLimits, withinℤ};
+ghost use Rattle.rules.specs.Curve.{points, compressibilitySound};
+ghost use Rattle.rules.specs.Quantities.{levelLimits, solidsLimits, stressLimits, waterLimits, pressure, withinℤ};
 ghost use Rattle.rules.specs.Result.{nodeHeight, poreOver, elementWords, elementBytes, elementsBytes};
 use curves::reading;
 use rules::quantities::Head;
+use rules::quantities::Pressure;
 
 // z of an element over the height of all below.
 pub fn node_height(below: u64, solids: u64, water: u64) -> u64
@@ -26,50 +26,40 @@ pub fn node_height(below: u64, solids: u64, water: u64) -> u64
 }
 
 // The pore pressure of one element, from its excess pressure and the height of its node.
-pub fn pore_pressure(excess: i64, top_level: Head, z: u64) -> i64
-    requires { ⌜ Within excess mostExcess ⌝ }
+pub fn pore_pressure(excess: Pressure, top_level: Head, z: u64) -> Pressure
+    requires { ⌜ Within (excess .0) mostExcess ⌝ }
     requires { ⌜ (withinℤ levelLimits («top_level» .0) ≡ true) × (z ≤ levelLimits .most) ⌝ }
-    ensures { λ r. ⌜ r ≡ poreOver excess («top_level» .0) z ⌝ }
+    ensures { λ r. ⌜ r ≡ pressure (poreOver (excess .0) («top_level» .0) z) ⌝ }
 {
-    excess + Head(top_level.0 - z as i64).as_pressure().0
-}
-
-// The effective stress of an element, 0 off the curve.
-pub fn effective_stress<'a>(
-    solids: u64,
-    water: u64,
-    m: usize,
-    void: &'a [u64; 64],
-    stress: &'a [u64; 64],
-) -> u64
-    requires { ⌜ (0 < solids) × (water ≤ waterLimits .most) ⌝ }
-    requires { ⌜ (2 ≤ m) × (m ≤ 64) ⌝ }
-    requires { ⌜ compressibilitySound (points m (now void) (now stress)) ≡ true ⌝ }
-    ensures { λ r. ⌜ r ≡ valueOf (effectiveStress (points m (now (void .entry)) (now (stress .entry))) solids water) ⌝ }
-{
-    let found = reading::read(m, void, stress, element::void_ratio(solids, water), 0);
-    let value = found.value;
-    reading::value_of(value)
+    let over = Head(top_level.0 - z as i64).as_pressure();
+    Pressure(excess.0 + over.0)
 }
 
 // Stores water, void ratio, effective stress, total stress and pore pressure.
-pub fn write_words(out: &mut [u8], at: usize, water: u64, ratio: u64, effective: u64, pore: i64)
+pub fn write_words(
+    out: &mut [u8],
+    at: usize,
+    water: u64,
+    ratio: u64,
+    effective: u64,
+    pore: Pressure,
+)
     requires { ⌜ at + 40 ≤ length (now out) ⌝ }
-    requires { ⌜ (effective ≤ stressLimits .most) × Within pore mostPore ⌝ }
-    ensures { λ _. ⌜ now (out .exit) ≡ sets (now (out .entry)) at (elementWords water ratio effective pore) ⌝ }
+    requires { ⌜ (effective ≤ stressLimits .most) × Within (pore .0) mostPore ⌝ }
+    ensures { λ _. ⌜ now (out .exit) ≡ sets (now (out .entry)) at (elementWords water ratio effective (pore .0)) ⌝ }
 {
     encoding::put_word(out, at, water);
     encoding::put_word(out, at + 8, ratio);
     encoding::put_word(out, at + 16, effective);
-    encoding::put_signed(out, at + 24, pore + effective as i64);
-    encoding::put_signed(out, at + 32, pore);
+    encoding::put_signed(out, at + 24, pore.0 + effective as i64);
+    encoding::put_signed(out, at + 32, pore.0);
 }
 
 // Stores an element's water, void ratio, effective stress, total stress and pore pressure.
 pub fn write_element<'a>(
     out: &mut [u8],
     at: usize,
-    load: i64,
+    load: Pressure,
     top_level: Head,
     below: u64,
     burden: u64,
@@ -83,10 +73,12 @@ pub fn write_element<'a>(
     requires { ⌜ (below ≤ mostHeight) × (withinℤ levelLimits («top_level» .0) ≡ true) ⌝ }
     requires { ⌜ (2 ≤ m) × (m ≤ 64) ⌝ }
     requires { ⌜ compressibilitySound (points m (now void) (now stress)) ≡ true ⌝ }
-    requires { ⌜ OnSoil m (now void) (now stress) load burden solids water ⌝ }
-    ensures { λ _. ⌜ now (out .exit) ≡ sets (now (out .entry)) at (elementBytes (points m (now (void .entry)) (now (stress .entry))) («top_level» .0) load below burden solids water) ⌝ }
+    requires { ⌜ OnSoil m (now void) (now stress) (load .0) burden solids water ⌝ }
+    ensures { λ _. ⌜ now (out .exit) ≡ sets (now (out .entry)) at (elementBytes (points m (now (void .entry)) (now (stress .entry))) («top_level» .0) (load .0) below burden solids water) ⌝ }
 {
-    let effective = effective_stress(solids, water, m, void, stress);
+    let found = element::effective_stress(solids, water, m, void, stress, 0);
+    let value = found.value;
+    let effective = reading::value_of(value);
     let excess = element::excess_pressure(load, burden, effective);
     let pore = pore_pressure(excess, top_level, node_height(below, solids, water));
     write_words(
@@ -102,7 +94,7 @@ pub fn write_element<'a>(
 // Stores all elements from byte 56 on.
 pub fn write_elements<'a>(
     n: usize,
-    load: i64,
+    load: Pressure,
     top_level: Head,
     burden: &'a [u64; 128],
     solids: &'a [u64; 128],
@@ -116,8 +108,8 @@ pub fn write_elements<'a>(
     requires { ⌜ withinℤ levelLimits («top_level» .0) ≡ true ⌝ }
     requires { ⌜ (2 ≤ m) × (m ≤ 64) ⌝ }
     requires { ⌜ compressibilitySound (points m (now void) (now stress)) ≡ true ⌝ }
-    requires { ⌜ ((j : ℕ) → j < n → OnSoil m (now void) (now stress) load (getD (now burden) j 0) (getD (now solids) j 0) (getD (now water) j 0)) ⌝ }
-    ensures { λ _. ⌜ now (out .exit) ≡ sets (now (out .entry)) 56 (elementsBytes (points m (now (void .entry)) (now (stress .entry))) («top_level» .0) load 0 (firstPlaces n (now (burden .entry))) (firstPlaces n (now (solids .entry))) (firstPlaces n (now (water .entry)))) ⌝ }
+    requires { ⌜ ((j : ℕ) → j < n → OnSoil m (now void) (now stress) (load .0) (getD (now burden) j 0) (getD (now solids) j 0) (getD (now water) j 0)) ⌝ }
+    ensures { λ _. ⌜ now (out .exit) ≡ sets (now (out .entry)) 56 (elementsBytes (points m (now (void .entry)) (now (stress .entry))) («top_level» .0) (load .0) 0 (firstPlaces n (now (burden .entry))) (firstPlaces n (now (solids .entry))) (firstPlaces n (now (water .entry)))) ⌝ }
 {
     let mut below: u64 = 0;
     let mut j: usize = 0;

@@ -12,7 +12,7 @@ use Rattle.rules.specs.Record.{recordSite, recordState}
 use Rattle.rules.specs.Start.{atMost, restingWater}
 use Rattle.rules.specs.Outcome.{answerNumber}
 use Rattle.rules.specs.Job.{described, jobSite}
-use Rattle.rules.specs.Specimen.{Table, specimen, resting, heavier, openingNumber, openedFrom, numbersAfter, stateAfter, recordElements, recordBurdens}
+use Rattle.rules.specs.Specimen.{Table, specimen, resting, heavier, openingNumber, openedFrom, numbersAfter, stateAfter, recordElements, recordStresses, recordBurdens}
 use Rattle.rules.proofs.Resting.{resting-found, resting-none}
 
 -- the compressibility curve of the specimen in start 1
@@ -30,7 +30,7 @@ module _ (load W : ℕ) where
   rests small on passes fails = resting-found (restingCurve load) tt 1_000_000 (lit< tt) load W small on passes fails
 
 pub table : Table
-unfolding specimen resting heavier openingNumber openedFrom numbersAfter stateAfter recordElements recordBurdens effectiveStress recordSite
+unfolding specimen resting heavier openingNumber openedFrom numbersAfter stateAfter recordElements recordStresses recordBurdens effectiveStress recordSite
     recordState pressureOf restingCurve falling voidRatio atMost
 table = record {
   case-1-resistance = refl;

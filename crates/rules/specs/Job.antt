@@ -4,22 +4,23 @@ use lib.Dec.{ltb, eqb}
 use lib.IntN.{pos}
 use lib.ListN.{length, getD, take, drop}
 use mathlib.Core.Bool.{Bool, true, false, not, _&&_, _||_}
-use mathlib.Core.List.{List, [], _∷_}
+use mathlib.Core.List.{List, [], _∷_, _++_}
 use Rattle.numbers.specs.Arrays.{firstPlaces, filled, zeros}
 use Rattle.numbers.specs.Bytes.{number}
 use Rattle.numbers.specs.Lists.{all}
-use Rattle.rules.specs.Quantities.{within, clockLimits, budgetLimits, head, pressure}
-use Rattle.rules.specs.Curve.{compressibilitySound, conductivitySound}
+use Rattle.rules.specs.Quantities.{within, clockLimits, budgetLimits, head}
+use Rattle.rules.specs.Curve.{points, compressibilitySound, conductivitySound}
 use Rattle.rules.specs.Layer.{Site, topPressure, bottomPressure}
 use Rattle.rules.specs.Load.{tableSound}
-use Rattle.rules.specs.Record.{headerSound, sizesSound, recordSite}
+use Rattle.rules.specs.Record.{headerSound, sizesSound}
 use Rattle.rules.specs.Refusals.{Trial, _if_}
 use Rattle.rules.specs.declared.answers.Refusal.the-variants.{ShortOrUnmarked, OtherVersion, HeaderOutside, WrongLength, FieldOutside, CompressibilityCurve, ConductivityCurve, LoadTable}
 use Rattle.rules.specs.declared.job.Header.{Header}
 use Rattle.rules.specs.declared.quantities.Face.{Face}
 use Rattle.rules.specs.declared.quantities.Face.the-variants.{Closed, Drained}
 use Rattle.rules.specs.declared.quantities.Pressure.{Pressure}
-use Rattle.rules.specs.declared.record.Record.{Record}
+use Rattle.rules.specs.declared.record.CurveCounts.{CurveCounts}
+use Rattle.rules.specs.declared.record.Frame.{Frame}
 
 -- the number in a field: so many bytes from an offset, lowest first
 unfoldable pub field : (size offset : ℕ) → List ℕ → ℕ
@@ -51,8 +52,8 @@ pub record Description : Type 0 where
   pub header : Header
   pub solids : List ℕ
   pub water : List ℕ
-  pub compressibilityStress : List ℕ
   pub compressibilityVoid : List ℕ
+  pub compressibilityStress : List ℕ
   pub conductivityVoid : List ℕ
   pub conductivity : List ℕ
   pub tableTime : List ℕ
@@ -98,38 +99,40 @@ described job =
 unfoldable pub numberedFace : (number : ℕ) (held : Pressure) → Face
 numberedFace number held = elim (eqb number 0) [ true ↦ Closed | false ↦ Drained held ]
 
--- the record of a description, its state not yet set
-unfoldable pub describedRecord : Description → (startingWater : ℕ) → Record
-unfolding numberedFace topPressure bottomPressure zeros
-describedRecord d startingWater = record {
-  top = numberedFace d.header.top topPressure;
-  bottom = numberedFace d.header.bottom (bottomPressure (pos (d .header .«top_level»)) (pos (d .header .«bottom_level»)));
-  elements = d.header.elements;
-  «compressibility_points» = d .header .«compressibility_points»;
-  «conductivity_points» = d .header .«conductivity_points»;
-  «table_points» = d .header .«table_points»;
-  gravity = d.header.gravity;
-  «top_level» = head (pos (d .header .«top_level»));
-  «bottom_level» = head (pos (d .header .«bottom_level»));
-  solids = d.solids;
-  water = zeros 128;
-  «compressibility_stress» = d .compressibilityStress;
-  «compressibility_void» = d .compressibilityVoid;
-  «conductivity_void» = d .conductivityVoid;
-  conductivity = d.conductivity;
-  «table_time» = d .tableTime;
-  «table_load» = d .tableLoad;
-  load = pressure (pos 0);
-  clock = record { 0 = 0 };
-  «top_outflow» = pos 0;
-  «bottom_outflow» = pos 0;
+-- how many points its curves have
+abbrev pub countsOf : Header → CurveCounts
+countsOf h = record { compressibility = h .«compressibility_points»; conductivity = h .«conductivity_points» }
+
+-- its numbers that no call changes, with the starting water
+unfoldable pub frameOf : Header → (startingWater : ℕ) → Frame
+unfolding numberedFace topPressure bottomPressure
+frameOf h startingWater = record {
+  top = numberedFace h.top topPressure;
+  bottom = numberedFace h.bottom (bottomPressure (pos (h .«top_level»)) (pos (h .«bottom_level»)));
+  elements = h.elements;
+  «table_points» = h .«table_points»;
+  gravity = h.gravity;
+  «top_level» = head (pos (h .«top_level»));
+  «bottom_level» = head (pos (h .«bottom_level»));
   «starting_water» = startingWater;
 }
 
 -- what a description fixes for good
 unfoldable pub jobSite : Description → Site
-unfolding recordSite describedRecord
-jobSite d = recordSite (describedRecord d 0)
+unfolding firstPlaces points numberedFace topPressure bottomPressure
+jobSite d =
+    let h = d.header in
+    record {
+      solids = firstPlaces (h .elements) d.solids;
+      compressibility = points (h .«compressibility_points») d.compressibilityVoid d.compressibilityStress;
+      conductivity = points (h .«conductivity_points») d.conductivityVoid d.conductivity;
+      loadTable = points (h .«table_points») d.tableTime d.tableLoad;
+      top = numberedFace (h .top) topPressure;
+      bottom = numberedFace (h .bottom) (bottomPressure (pos (h .«top_level»)) (pos (h .«bottom_level»)));
+      gravity = h .gravity;
+      topLevel = pos (h .«top_level»);
+      bottomLevel = pos (h .«bottom_level»);
+    }
 
 -- the water heights that it gives
 unfoldable pub givenWater : Description → List ℕ
@@ -144,28 +147,38 @@ fieldsSound d =
     (eqb d.header.start 0 || all (λ w. eqb w 0) (givenWater d))
 
 -- the length of a job with so many elements and points
-unfoldable pub jobLength : Description → ℕ
-jobLength d =
-    headerLength + pairLength * (d.header.elements + d .header .«compressibility_points» + d .header .«conductivity_points» + d .header .«table_points»)
+unfoldable pub jobLength : Header → ℕ
+jobLength h =
+    headerLength + pairLength * (h.elements + h .«compressibility_points» + h .«conductivity_points» + h .«table_points»)
 
--- cause 3, of a description: bytes 5 to 13 (it has no bytes 14 and 15)
-unfoldable pub headerKept : Description → Bool
+-- cause 3, of a header: bytes 5 to 13
+unfoldable pub headerKept : Header → Bool
 unfolding headerSound
-headerKept d =
-    headerSound d.header.top d.header.bottom d.header.elements (d .header .«compressibility_points») (d .header .«conductivity_points») (d .header .«table_points») d.header.start
-    d.header.gravity
+headerKept h =
+    headerSound h.top h.bottom h.elements (h .«compressibility_points») (h .«conductivity_points») (h .«table_points») h.start
+    h.gravity
 
--- the causes 1 to 8 of a job, in their order
-unfoldable pub jobCauses : List ℕ → List Trial
-unfolding described marked field headerKept jobLength fieldsSound jobSite compressibilitySound conductivitySound tableSound
-jobCauses job =
-    let d = described job in
-    let site = jobSite d in
+-- the causes 1 to 4, of a job's bytes
+unfoldable pub framingCauses : List ℕ → List Trial
+unfolding described marked field headerKept jobLength
+framingCauses job =
+    let h = (described job) .header in
     (ShortOrUnmarked if (ltb (length job) headerLength || not (marked job))) ∷
     (OtherVersion if not (eqb (field 2 3 job) 1)) ∷
-    (HeaderOutside if (not (headerKept d) || not (eqb (field 2 14 job) 0))) ∷
-    (WrongLength if not (eqb (length job) (jobLength d))) ∷
+    (HeaderOutside if (not (headerKept h) || not (eqb (field 2 14 job) 0))) ∷
+    (WrongLength if not (eqb (length job) (jobLength h))) ∷ []
+
+-- the causes 5 to 8, of what they say
+unfoldable pub describedCauses : Description → List Trial
+unfolding fieldsSound jobSite compressibilitySound conductivitySound tableSound
+describedCauses d =
+    let site = jobSite d in
     (FieldOutside if not (fieldsSound d)) ∷
     (CompressibilityCurve if not (compressibilitySound (site .compressibility))) ∷
     (ConductivityCurve if not (conductivitySound (site .conductivity) (site .compressibility))) ∷
     (LoadTable if not (tableSound (site .loadTable))) ∷ []
+
+-- the causes 1 to 8 of a job, in their order
+unfoldable pub jobCauses : List ℕ → List Trial
+unfolding framingCauses described describedCauses
+jobCauses job = framingCauses job ++ describedCauses (described job)

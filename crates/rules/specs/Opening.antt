@@ -1,54 +1,52 @@
--- Opening: from a job's bytes to a record.
+-- Opening: from a job's bytes, or from what they describe, to a record.
 use Prim.Native.Nat.{ℕ}
 use lib.IntN.{pos}
-use mathlib.Core.List.{List}
+use mathlib.Core.Bool.{not}
+use mathlib.Core.List.{List, [], _∷_}
 use mathlib.Core.Option.{Option, none, some}
-use Rattle.numbers.specs.Arrays.{zeros}
+use Rattle.numbers.specs.Arrays.{zeros, overlaid}
 use Rattle.numbers.specs.Sums.{sum}
-use Rattle.rules.specs.Quantities.{head, pressure}
+use Rattle.rules.specs.Quantities.{head}
+use Rattle.rules.specs.Layer.{State}
 use Rattle.rules.specs.Start.{startWater, openingLoad, openingState}
-use Rattle.rules.specs.Refusals.{firstCause}
-use Rattle.rules.specs.Record.{withState}
-use Rattle.rules.specs.Job.{Description, described, describedRecord, jobSite, givenWater, jobCauses}
+use Rattle.rules.specs.Outcome.{Numbers, answerNumbers}
+use Rattle.rules.specs.Refusals.{Trial, _if_, firstCause}
+use Rattle.rules.specs.Record.{soilOf, layerOf, recordOf, progressOf}
+use Rattle.rules.specs.Job.{Description, described, countsOf, frameOf, jobSite, givenWater, headerKept, describedCauses, jobCauses}
+use Rattle.rules.specs.declared.answers.Acceptance.{Acceptance}
 use Rattle.rules.specs.declared.answers.Answer.the-variants.{Done, Refused}
 use Rattle.rules.specs.declared.answers.Answered.{Answered}
 use Rattle.rules.specs.declared.answers.Refusal.{Refusal}
-use Rattle.rules.specs.declared.answers.Refusal.the-variants.{StartOffCurve}
+use Rattle.rules.specs.declared.answers.Refusal.the-variants.{HeaderOutside, StartOffCurve}
 use Rattle.rules.specs.declared.quantities.Face.the-variants.{Closed}
 use Rattle.rules.specs.declared.record.Record.{Record}
 
 -- what stands where a job is refused: a record that is no layer
 unfoldable pub blankRecord : Record
 unfolding zeros
-blankRecord = record {
-  top = Closed;
-  bottom = Closed;
-  elements = 0;
-  «compressibility_points» = 0;
-  «conductivity_points» = 0;
-  «table_points» = 0;
-  gravity = 0;
-  «top_level» = head (pos 0);
-  «bottom_level» = head (pos 0);
-  solids = zeros 128;
-  water = zeros 128;
-  «compressibility_stress» = zeros 64;
-  «compressibility_void» = zeros 64;
-  «conductivity_void» = zeros 64;
-  conductivity = zeros 64;
-  «table_time» = zeros 64;
-  «table_load» = zeros 64;
-  load = pressure (pos 0);
-  clock = record { 0 = 0 };
-  «top_outflow» = pos 0;
-  «bottom_outflow» = pos 0;
-  «starting_water» = 0;
-}
+blankRecord =
+    recordOf (soilOf (record { compressibility = 0; conductivity = 0 }) (zeros 64) (zeros 64) (zeros 64) (zeros 64))
+    (layerOf
+    (record {
+      top = Closed;
+      bottom = Closed;
+      elements = 0;
+      «table_points» = 0;
+      gravity = 0;
+      «top_level» = head (pos 0);
+      «bottom_level» = head (pos 0);
+      «starting_water» = 0;
+    })
+    (progressOf (record { water = []; load = pos 0; clock = 0; topOutflow = pos 0; bottomOutflow = pos 0 }))
+    (zeros 128) (zeros 128) (zeros 64) (zeros 64))
 
 -- the record of a description, opened with the water of its start
 unfoldable pub openedRecord : Description → (water : List ℕ) → Record
-unfolding describedRecord withState openingState jobSite sum
-openedRecord d water = withState (describedRecord d (sum water)) (openingState (jobSite d) water)
+unfolding frameOf openingState jobSite sum overlaid
+openedRecord d water =
+    recordOf (soilOf (countsOf d.header) d.compressibilityVoid d.compressibilityStress d.conductivityVoid d.conductivity)
+    (layerOf (frameOf d.header (sum water)) (progressOf (openingState (jobSite d) water)) d.solids (overlaid water d.water)
+    d.tableTime d.tableLoad)
 
 unfoldable pub refusedOpening : Refusal → Answered
 unfolding blankRecord
@@ -70,3 +68,35 @@ opening job =
         | some water ↦ record { answer = Done; after = openedRecord (described job) water }
       ]
     ]
+
+-- its answer in the paper's numbers
+unfoldable pub openingNumbers : List ℕ → Numbers
+unfolding opening answerNumbers
+openingNumbers job = answerNumbers ((opening job) .answer)
+
+-- the causes that are tested of a description, which has no bytes: 3, and 5 to 8
+unfoldable pub layerCauses : Description → List Trial
+unfolding headerKept describedCauses
+layerCauses d = (HeaderOutside if not (headerKept d.header)) ∷ describedCauses d
+
+-- the numbers of a description's layer, or why there is none: those causes, then 9
+unfoldable pub accepted : Description → Acceptance
+unfolding firstCause layerCauses descriptionWater frameOf openingState jobSite sum
+accepted d =
+    elim (firstCause (layerCauses d)) [
+      | some cause ↦ Acceptance.Refused cause
+      | none ↦ elim (descriptionWater d) [
+        | none ↦ Acceptance.Refused StartOffCurve
+        | some water ↦ Acceptance.Accepted (frameOf d.header (sum water)) (progressOf (openingState (jobSite d) water))
+      ]
+    ]
+
+-- the water of its start in its array, or, where there is none, the water as it is given
+unfoldable pub startedWater : Description → List ℕ
+unfolding descriptionWater overlaid
+startedWater d = elim (descriptionWater d) [ none ↦ d.water | some water ↦ overlaid water d.water ]
+
+-- that of an accepted description; where it is refused, as it is given
+unfoldable pub acceptedWater : Description → List ℕ
+unfolding firstCause layerCauses startedWater
+acceptedWater d = elim (firstCause (layerCauses d)) [ some cause ↦ d.water | none ↦ startedWater d ]

@@ -7,19 +7,29 @@ use Rattle.rules.specs.Layer.{Site, State}
 use Rattle.rules.specs.Refusals.{refusalNumber}
 use Rattle.rules.specs.Step.{stepRefusal}
 use Rattle.rules.specs.Load.{loadRefusal}
-use Rattle.rules.specs.Run.{Event, loadSet, stepTaken, stepCount, running, runRefusal}
+use Rattle.rules.specs.Run.{Event, loadSet, stepTaken, stepCount, running, runRefusal, stopNumber}
 use Rattle.rules.specs.declared.answers.Answer.{Answer}
 use Rattle.rules.specs.declared.answers.Answer.the-variants.{Done, Ran, Refused}
 use Rattle.rules.specs.declared.answers.Call.{Call}
 use Rattle.rules.specs.declared.answers.Call.the-variants.{Load, Step, Run}
 use Rattle.rules.specs.declared.answers.Refusal.{Refusal}
 
+-- what an answer says in the paper's numbers: the refusal's, and a run's stop and steps, each 0 where there is none
+pub record Numbers : Type 0 where
+  pub refusal : ℕ
+  pub stop : ℕ
+  pub steps : ℕ
+
+unfoldable pub answerNumbers : Answer → Numbers
+unfolding refusalNumber stopNumber
+answerNumbers Done = record { refusal = 0; stop = 0; steps = 0 }
+answerNumbers (Ran stop steps) = record { refusal = 0; stop = stopNumber stop; steps = steps }
+answerNumbers (Refused cause) = record { refusal = refusalNumber cause; stop = 0; steps = 0 }
+
 -- the number returned with an answer: 0, or the refusal's
 unfoldable pub answerNumber : Answer → ℕ
-unfolding refusalNumber
-answerNumber Done = 0
-answerNumber (Ran stop steps) = 0
-answerNumber (Refused cause) = refusalNumber cause
+unfolding answerNumbers
+answerNumber answer = (answerNumbers answer) .refusal
 
 unfoldable pub refusalOf : Answer → Option Refusal
 refusalOf Done = none

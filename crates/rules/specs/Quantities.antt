@@ -7,6 +7,8 @@ use lib.IntN.{ℤ, pos, negsuc, _*ℤ_}
 use mathlib.Core.Bool.{Bool, false, _&&_}
 use Rattle.numbers.specs.Rounding.{cut}
 use Rattle.rules.specs.declared.quantities.Head.{Head}
+use Rattle.rules.specs.declared.quantities.Kind.{Kind}
+use Rattle.rules.specs.declared.quantities.Kind.the-variants.{Stress, Void, Conductivity, Time, Solids, Water, Zero}
 use Rattle.rules.specs.declared.quantities.Pressure.{Pressure}
 
 -- the least and the greatest number of a kind
@@ -63,6 +65,20 @@ startingWaterLimits = from 0 to 128_000_000_000
 -- a byte that says no or yes
 abbrev pub flagLimits : Limits
 flagLimits = from 0 to 1
+
+-- the limits of each kind that arrays hold
+abbrev pub limitsOf : Kind → Limits
+limitsOf Stress = stressLimits
+limitsOf Void = voidLimits
+limitsOf Conductivity = conductivityLimits
+limitsOf Time = clockLimits
+limitsOf Solids = solidsLimits
+limitsOf Water = waterLimits
+limitsOf Zero = from 0 to 0
+
+-- no outflow is greater in size than this for each second of the clock
+abbrev pub outflowRate : ℕ
+outflowRate = 2_300_000_000
 
 -- a number keeps the limits of its kind
 unfoldable pub within : Limits → ℕ → Bool

@@ -8,18 +8,21 @@ use Rattle.numbers.specs.Arrays.{firstPlaces, overlaid}
 use Rattle.numbers.specs.Integers.{eqℤ}
 use Rattle.numbers.specs.Lists.{all}
 use Rattle.numbers.specs.Sums.{sum}
-use Rattle.rules.specs.Quantities.{within, withinℤ, stressLimits, levelLimits, clockLimits, solidsLimits, waterLimits, gravityLimits, elementLimits, curveLimits, tableLimits, flagLimits, startingWaterLimits, pressure}
+use Rattle.rules.specs.Quantities.{within, withinℤ, stressLimits, levelLimits, clockLimits, solidsLimits, waterLimits, gravityLimits, elementLimits, curveLimits, tableLimits, flagLimits, startingWaterLimits, outflowRate, pressure}
 use Rattle.rules.specs.Curve.{points, compressibilitySound, conductivitySound}
 use Rattle.rules.specs.Layer.{Site, State, topPressure, bottomPressure}
 use Rattle.rules.specs.Step.{allOnCurve}
 use Rattle.rules.specs.Load.{tableSound}
 use Rattle.rules.specs.Run.{Event, afterEvents}
-use Rattle.rules.specs.declared.quantities.Clock.{Clock}
 use Rattle.rules.specs.declared.quantities.Face.{Face}
 use Rattle.rules.specs.declared.quantities.Face.the-variants.{Closed, Drained}
-use Rattle.rules.specs.declared.quantities.Head.{Head}
 use Rattle.rules.specs.declared.quantities.Pressure.{Pressure}
+use Rattle.rules.specs.declared.record.CurveCounts.{CurveCounts}
+use Rattle.rules.specs.declared.record.Frame.{Frame}
+use Rattle.rules.specs.declared.record.Layer.{Layer}
+use Rattle.rules.specs.declared.record.Progress.{Progress}
 use Rattle.rules.specs.declared.record.Record.{Record}
+use Rattle.rules.specs.declared.record.Soil.{Soil}
 
 -- the job's number of a face
 unfoldable pub faceNumber : Face → ℕ
@@ -47,90 +50,78 @@ sizesSound site water =
     withinℤ levelLimits site.topLevel && withinℤ levelLimits site.bottomLevel && closedAtZero site.bottom site.bottomLevel &&
     all (within solidsLimits) site.solids && all (within waterLimits) water
 
--- a record by its fields, in their order
-abbrev pub recordOf : (top bottom : Face) (elements compressibilityPoints conductivityPoints tablePoints gravity : ℕ)
-    (topLevel bottomLevel : Head) (solids water compressibilityStress compressibilityVoid conductivityVoid conductivity tableTime
-    tableLoad : List ℕ) (load : Pressure) (clock : Clock) (topOutflow bottomOutflow : ℤ) (startingWater : ℕ) → Record
-recordOf top bottom elements compressibilityPoints conductivityPoints tablePoints gravity topLevel bottomLevel solids water
-    compressibilityStress compressibilityVoid conductivityVoid conductivity tableTime tableLoad load clock topOutflow bottomOutflow
-    startingWater = record {
-      top = top;
-      bottom = bottom;
-      elements = elements;
-      «compressibility_points» = compressibilityPoints;
-      «conductivity_points» = conductivityPoints;
-      «table_points» = tablePoints;
-      gravity = gravity;
-      «top_level» = topLevel;
-      «bottom_level» = bottomLevel;
-      solids = solids;
-      water = water;
-      «compressibility_stress» = compressibilityStress;
-      «compressibility_void» = compressibilityVoid;
-      «conductivity_void» = conductivityVoid;
-      conductivity = conductivity;
-      «table_time» = tableTime;
-      «table_load» = tableLoad;
-      load = load;
-      clock = clock;
-      «top_outflow» = topOutflow;
-      «bottom_outflow» = bottomOutflow;
-      «starting_water» = startingWater;
-    }
+-- a soil and a layer from their parts, and a record: the one place that builds one
+abbrev pub soilOf : CurveCounts → (compressibilityVoid compressibilityStress conductivityVoid conductivity : List ℕ) → Soil
+soilOf counts compressibilityVoid compressibilityStress conductivityVoid conductivity = record {
+  counts = counts;
+  «compressibility_void» = compressibilityVoid;
+  «compressibility_stress» = compressibilityStress;
+  «conductivity_void» = conductivityVoid;
+  conductivity = conductivity;
+}
+
+abbrev pub layerOf : Frame → Progress → (solids water tableTime tableLoad : List ℕ) → Layer
+layerOf frame progress solids water tableTime tableLoad = record {
+  frame = frame;
+  progress = progress;
+  solids = solids;
+  water = water;
+  «table_time» = tableTime;
+  «table_load» = tableLoad;
+}
+
+abbrev pub recordOf : Soil → Layer → Record
+recordOf soil layer = record { soil = soil; layer = layer }
 
 -- what a record holds of a job
 unfoldable pub recordSite : Record → Site
 unfolding firstPlaces points
 recordSite r = record {
-  solids = firstPlaces r.elements r.solids;
-  compressibility = points (r .«compressibility_points») (r .«compressibility_void») (r .«compressibility_stress»);
-  conductivity = points (r .«conductivity_points») (r .«conductivity_void») r.conductivity;
-  loadTable = points (r .«table_points») (r .«table_time») (r .«table_load»);
-  top = r.top;
-  bottom = r.bottom;
-  gravity = r.gravity;
-  topLevel = r .«top_level» .0;
-  bottomLevel = r .«bottom_level» .0;
+  solids = firstPlaces (r .layer .frame .elements) (r .layer .solids);
+  compressibility = points (r .soil .counts .compressibility) (r .soil .«compressibility_void») (r .soil .«compressibility_stress»);
+  conductivity = points (r .soil .counts .conductivity) (r .soil .«conductivity_void») (r .soil .conductivity);
+  loadTable = points (r .layer .frame .«table_points») (r .layer .«table_time») (r .layer .«table_load»);
+  top = r .layer .frame .top;
+  bottom = r .layer .frame .bottom;
+  gravity = r .layer .frame .gravity;
+  topLevel = r .layer .frame .«top_level» .0;
+  bottomLevel = r .layer .frame .«bottom_level» .0;
+}
+
+-- the state of so many elements with water in an array's first places
+abbrev pub stateOf : (elements : ℕ) (water : List ℕ) → Progress → State
+stateOf elements water progress = record {
+  water = firstPlaces elements water;
+  load = progress .load .0;
+  clock = progress .clock .0;
+  topOutflow = progress .«top_outflow» .0;
+  bottomOutflow = progress .«bottom_outflow» .0;
 }
 
 -- what it holds of a state
 unfoldable pub recordState : Record → State
 unfolding firstPlaces
-recordState r = record {
-  water = firstPlaces r.elements r.water;
-  load = r .load .0;
-  clock = r .clock .0;
-  topOutflow = r .«top_outflow»;
-  bottomOutflow = r .«bottom_outflow»;
+recordState r = stateOf (r .layer .frame .elements) (r .layer .water) (r .layer .progress)
+
+-- the numbers of a state, as a record holds them
+abbrev pub progressOf : State → Progress
+progressOf s = record {
+  load = pressure s.load;
+  clock = record { 0 = s.clock };
+  «top_outflow» = record { 0 = s.topOutflow };
+  «bottom_outflow» = record { 0 = s.bottomOutflow };
 }
+
+-- the record with other water and other progress: the one place that replaces its state
+abbrev pub withParts : Record → (water : List ℕ) → Progress → Record
+withParts r water progress =
+    let l = r .layer in
+    recordOf (r .soil) (layerOf (l .frame) progress (l .solids) water (l .«table_time») (l .«table_load»))
 
 -- the record with another state; places past the count are kept
 unfoldable pub withState : Record → State → Record
 unfolding overlaid
-withState r s = record {
-  top = r.top;
-  bottom = r.bottom;
-  elements = r.elements;
-  «compressibility_points» = r .«compressibility_points»;
-  «conductivity_points» = r .«conductivity_points»;
-  «table_points» = r .«table_points»;
-  gravity = r.gravity;
-  «top_level» = r .«top_level»;
-  «bottom_level» = r .«bottom_level»;
-  solids = r.solids;
-  water = overlaid s.water r.water;
-  «compressibility_stress» = r .«compressibility_stress»;
-  «compressibility_void» = r .«compressibility_void»;
-  «conductivity_void» = r .«conductivity_void»;
-  conductivity = r.conductivity;
-  «table_time» = r .«table_time»;
-  «table_load» = r .«table_load»;
-  load = pressure s.load;
-  clock = record { 0 = s.clock };
-  «top_outflow» = s.topOutflow;
-  «bottom_outflow» = s.bottomOutflow;
-  «starting_water» = r .«starting_water»;
-}
+withState r s = withParts r (overlaid s.water (r .layer .water)) (progressOf s)
 
 -- the record after events: the same record after none
 unfoldable pub withEvents : Record → List Event → Record
@@ -145,7 +136,7 @@ faceHolds (Drained other) held = eqℤ (other .0) (held .0)
 
 -- an outflow keeps its bound
 unfoldable pub outflowSound : (outflow : ℤ) (clock : ℕ) → Bool
-outflowSound outflow clock = leb (natAbs outflow) (2_300_000_000 * clock)
+outflowSound outflow clock = leb (natAbs outflow) (outflowRate * clock)
 
 -- what a record holds of a job meets the causes 3 and 5 to 8, and its faces hold 0 and P
 unfoldable pub siteSound : Record → Bool
@@ -153,11 +144,12 @@ unfolding recordSite recordState headerSound faceNumber sizesSound compressibili
     topPressure bottomPressure
 siteSound r =
     let site = recordSite r in
-    headerSound (faceNumber r.top) (faceNumber r.bottom) r.elements (r .«compressibility_points») (r .«conductivity_points»)
-    (r .«table_points») 0 r.gravity &&
+    let frame = r .layer .frame in
+    headerSound (faceNumber (frame .top)) (faceNumber (frame .bottom)) (frame .elements) (r .soil .counts .compressibility)
+    (r .soil .counts .conductivity) (frame .«table_points») 0 (frame .gravity) &&
     sizesSound site ((recordState r) .water) && compressibilitySound (site .compressibility) &&
     conductivitySound (site .conductivity) (site .compressibility) && tableSound (site .loadTable) &&
-    faceHolds r.top topPressure && faceHolds r.bottom (bottomPressure (site .topLevel) (site .bottomLevel))
+    faceHolds (frame .top) topPressure && faceHolds (frame .bottom) (bottomPressure (site .topLevel) (site .bottomLevel))
 
 -- all its water is on the curve, load and clock keep their limits, the outflows theirs, and the water balances
 unfoldable pub stateSound : Record → Bool
@@ -165,10 +157,11 @@ unfolding recordSite recordState allOnCurve within withinℤ sum outflowSound
 stateSound r =
     let site = recordSite r in
     let s = recordState r in
+    let starting = r .layer .frame .«starting_water» in
     allOnCurve (site .compressibility) (site .solids) (map pos (s .water)) && withinℤ stressLimits (s .load) &&
-    within clockLimits (s .clock) && within startingWaterLimits (r .«starting_water») &&
+    within clockLimits (s .clock) && within startingWaterLimits starting &&
     outflowSound (s .topOutflow) (s .clock) && outflowSound (s .bottomOutflow) (s .clock) &&
-    eqℤ (pos (r .«starting_water»)) (pos (sum (s .water)) +ℤ s .topOutflow +ℤ s .bottomOutflow)
+    eqℤ (pos starting) (pos (sum (s .water)) +ℤ s .topOutflow +ℤ s .bottomOutflow)
 
 -- a record is a layer
 unfoldable pub isLayer : Record → Bool

@@ -8,7 +8,7 @@ use mathlib.Core.List.{List, [], _∷_, _++_}
 use mathlib.Core.Option.{Option, none, some}
 use Rattle.numbers.specs.Arrays.{overlaid}
 use Rattle.numbers.specs.Bytes.{bytes}
-use Rattle.numbers.specs.Integers.{signedField}
+use Rattle.numbers.specs.Integers.{up, signedField}
 use Rattle.numbers.specs.Rounding.{floor}
 use Rattle.numbers.specs.Sums.{sum}
 use Rattle.rules.specs.Quantities.{head, pressureOf}
@@ -45,11 +45,11 @@ abbrev pub signedWord : ℤ → List ℕ
 signedWord z = word (signedField z)
 
 -- mark, version, stop, number of elements, a zero, clock, steps, load, both outflows and settlement
-unfoldable pub headBytes : Stop → (elements clock steps : ℕ) (load topOutflow bottomOutflow settlement : ℤ) → List ℕ
+unfoldable pub headBytes : Stop → (elements clock steps load : ℕ) (topOutflow bottomOutflow settlement : ℤ) → List ℕ
 unfolding bytes stopNumber
 headBytes stop elements clock steps load topOutflow bottomOutflow settlement =
     (76 ∷ 83 ∷ 82 ∷ []) ++ bytes 2 1 ++ bytes 1 (stopNumber stop) ++ bytes 1 elements ++ bytes 1 0 ++
-    word clock ++ word steps ++ signedWord load ++ signedWord topOutflow ++ signedWord bottomOutflow ++ signedWord settlement
+    word clock ++ word steps ++ word load ++ signedWord topOutflow ++ signedWord bottomOutflow ++ signedWord settlement
 
 -- W, E, effective stress, total stress and pore pressure
 unfoldable pub elementWords : (W E effective : ℕ) (pore : ℤ) → List ℕ
@@ -76,14 +76,14 @@ unfoldable pub settlement : Record → ℤ
 unfolding recordSite recordState sum layerHeight
 settlement r =
     let solids = (recordSite r) .solids in
-    pos (sum solids + r .«starting_water») -ℤ pos (layerHeight solids (recordState r))
+    pos (sum solids + r .layer .frame .«starting_water») -ℤ pos (layerHeight solids (recordState r))
 
--- the fields of a record's result before its elements
+-- the fields of a record's result before its elements; no layer's load is negative
 unfoldable pub resultHead : Record → Stop → (steps : ℕ) → List ℕ
 unfolding headBytes settlement recordState
 resultHead r stop steps =
     let s = recordState r in
-    headBytes stop r.elements (s .clock) steps (s .load) (s .topOutflow) (s .bottomOutflow) (settlement r)
+    headBytes stop (r .layer .frame .elements) (s .clock) steps (up (s .load)) (s .topOutflow) (s .bottomOutflow) (settlement r)
 
 -- the result of a record, a run's stop and its number of steps
 unfoldable pub resultBytes : Record → Stop → (steps : ℕ) → List ℕ
@@ -102,7 +102,7 @@ resultSize elements = 56 + 40 * elements
 unfoldable pub resultRefusal : Record → (room : ℕ) → Option Refusal
 unfolding firstCause isLayer resultSize
 resultRefusal r room =
-    firstCause ((NoLayer if not (isLayer r)) ∷ (ShortBuffer if ltb room (resultSize r.elements)) ∷ [])
+    firstCause ((NoLayer if not (isLayer r)) ∷ (ShortBuffer if ltb room (resultSize (r .layer .frame .elements))) ∷ [])
 
 -- the number returned, and the buffer as it is left
 pub record Returned : Type 0 where

@@ -70,22 +70,24 @@ pub record RunOutcome : Type 0 where
   pub stop : Stop
   pub events : List Event
 
+-- stop 0 comes first, whatever else the loop would find
+unfoldable pub unlessAtEnd : (now end : ℕ) → RunOutcome → RunOutcome
+unlessAtEnd now end found = elim (eqb now end) [ true ↦ record { stop = AtEnd; events = [] } | false ↦ found ]
+
 unfoldable pub running : Site → (end budget : ℕ) → State → RunOutcome
-unfolding withLoad loadAt turn longestStep stepped
-running site end zero s =
-    record { stop = elim (eqb s.clock end) [ true ↦ AtEnd | false ↦ BudgetUsed ]; events = [] }
+unfolding unlessAtEnd withLoad loadAt turn longestStep stepped
+running site end zero s = unlessAtEnd s.clock end (record { stop = BudgetUsed; events = [] })
 running site end (suc budget) s =
     let load = loadAt site.loadTable s.clock in
     let loaded = withLoad load s in
-    elim (eqb s.clock end) [
-      | true ↦ record { stop = AtEnd; events = [] }
-      | false ↦ elim (turn site loaded (longestStep site end loaded)) [
-        | stops stop ↦ record { stop = stop; events = loadSet load ∷ [] }
-        | goes t ↦
-            let rest = running site end budget (stepped site t loaded) in
-            record { stop = rest .stop; events = loadSet load ∷ stepTaken t ∷ rest .events }
-      ]
+    unlessAtEnd s.clock end (
+    elim (turn site loaded (longestStep site end loaded)) [
+      | stops stop ↦ record { stop = stop; events = loadSet load ∷ [] }
+      | goes t ↦
+          let rest = running site end budget (stepped site t loaded) in
+          record { stop = rest .stop; events = loadSet load ∷ stepTaken t ∷ rest .events }
     ]
+    )
 
 -- why a run is refused, if it is: 16
 unfoldable pub runRefusal : State → (end budget : ℕ) → Option Refusal

@@ -4,6 +4,7 @@ use lib.IntN.{pos, negℤ}
 use mathlib.Core.List.{List, [], _∷_, _++_, map}
 use mathlib.Core.Path.{_≡_}
 use Rattle.numbers.specs.Bytes.{bytes}
+use Rattle.numbers.specs.Lists.{paired}
 use Rattle.rules.specs.Quantities.{head, pressure, pressureOf}
 use Rattle.rules.specs.Layer.{State, Element, elements, effectiveStress, burdens}
 use Rattle.rules.specs.Outcome.{answerNumber}
@@ -12,6 +13,7 @@ use Rattle.rules.specs.Opening.{opening}
 use Rattle.rules.specs.Calls.{Replay, replayed}
 use Rattle.rules.specs.declared.answers.Call.{Call}
 use Rattle.rules.specs.declared.answers.Call.the-variants.{Load, Step}
+use Rattle.rules.specs.declared.quantities.CurveValue.{CurveValue}
 use Rattle.rules.specs.declared.quantities.CurveValue.the-variants.{On}
 use Rattle.rules.specs.declared.record.Record.{Record}
 
@@ -68,6 +70,12 @@ unfoldable pub recordElements : Record → List Element
 unfolding elements recordSite recordState
 recordElements r = elements (recordSite r) (recordState r)
 
+unfoldable pub recordStresses : Record → List CurveValue
+unfolding paired effectiveStress recordSite recordState
+recordStresses r =
+    let site = recordSite r in
+    paired (effectiveStress (site .compressibility)) (site .solids) ((recordState r) .water)
+
 unfoldable pub recordBurdens : Record → List ℕ
 unfolding burdens recordSite
 recordBurdens r = burdens ((recordSite r) .gravity) ((recordSite r) .solids)
@@ -78,7 +86,7 @@ pub record Table : Type 0 where
   pub case-2-accepted : numbersAfter (Step 100 ∷ []) ≡ 0 ∷ []
   pub case-2-water : (stateAfter (Step 100 ∷ [])) .water ≡ 2_000_000 ∷ 1_986_409 ∷ []
   pub case-2-outflow : (stateAfter (Step 100 ∷ [])) .topOutflow ≡ pos 13_591
-  pub case-2-stress : effectiveStress ((recordSite (openedFrom specimen)) .compressibility) 1_000_000 1_986_409 ≡ On 6_359_100
+  pub case-2-stress : recordStresses ((specimenAfter (Step 100 ∷ [])) .after) ≡ On 5_000_000 ∷ On 6_359_100 ∷ []
   pub case-3-water : (stateAfter (Step 100 ∷ Step 100 ∷ [])) .water ≡ 1_999_078 ∷ 1_975_614 ∷ []
   pub case-3-outflow : (stateAfter (Step 100 ∷ Step 100 ∷ [])) .topOutflow ≡ pos 25_308
   pub case-4-accepted : numbersAfter (Step 367 ∷ []) ≡ 0 ∷ []

@@ -1,9 +1,9 @@
 -- One step of t seconds. All is read before anything moves.
 use Prim.Native.Nat.{ℕ, _+_, _*_}
 use lib.Dec.{ltb}
-use lib.IntN.{ℤ, pos, negsuc, negℤ, natAbs, _+ℤ_, _-ℤ_, _*ℤ_}
+use lib.IntN.{ℤ, pos, negsuc, negℤ, _+ℤ_, _-ℤ_, _*ℤ_}
 use mathlib.Core.Bool.{Bool, false, not, _||_}
-use mathlib.Core.List.{List, [], _∷_, _++_, map}
+use mathlib.Core.List.{List, [], _∷_, _++_}
 use mathlib.Core.Option.{Option}
 use Rattle.numbers.specs.Rounding.{cut}
 use Rattle.numbers.specs.Lists.{all, any, paired, firstOr, lastOr}
@@ -54,13 +54,18 @@ moved (below ∷ []) ws = []
 moved (below ∷ above ∷ rest) [] = []
 moved (below ∷ above ∷ rest) (w ∷ ws) = (pos w -ℤ above +ℤ below) ∷ moved (above ∷ rest) ws
 
--- the state after a step; of an accepted one, no new height is negative
+-- the height of an element's water after a step. None goes below 0: such a step is refused, and the height stays
+unfoldable pub newHeight : (old : ℕ) (new : ℤ) → ℕ
+newHeight old (pos W) = W
+newHeight old (negsuc below) = old
+
+-- the state after a step
 unfoldable pub stepped : Site → (t : ℕ) → State → State
-unfolding upwardFlows elements moved firstOr lastOr
+unfolding upwardFlows elements moved newHeight paired firstOr lastOr
 stepped site t s =
     let flows = upwardFlows site.top site.bottom t (elements site s) in
     record {
-      water = map natAbs (moved flows s.water);
+      water = paired newHeight s.water (moved flows s.water);
       load = s.load;
       clock = s.clock + t;
       topOutflow = s.topOutflow +ℤ lastOr (pos 0) flows;

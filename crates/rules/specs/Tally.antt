@@ -28,17 +28,35 @@ begun site water = record { solids = site.solids; state = openingState site wate
 abbrev pub rise : (load new : ℤ) → ℕ
 rise load new = up (new -ℤ load)
 
+-- the site, with the tally's own solids: all rules are worked on these
+unfoldable pub tallySite : Site → Tally → Site
+tallySite site y = record {
+  solids = y.solids;
+  compressibility = site.compressibility;
+  conductivity = site.conductivity;
+  loadTable = site.loadTable;
+  top = site.top;
+  bottom = site.bottom;
+  gravity = site.gravity;
+  topLevel = site.topLevel;
+  bottomLevel = site.bottomLevel;
+}
+
 -- an event on the tally: a load set adds to the rises or to the falls
 unfoldable pub recorded : Site → Event → Tally → Tally
-unfolding afterEvent
+unfolding afterEvent tallySite
 recorded site (loadSet load) y = record {
   solids = y.solids;
-  state = afterEvent site (loadSet load) (y .state);
+  state = afterEvent (tallySite site y) (loadSet load) (y .state);
   rises = y.rises + rise (y .state .load) load;
   falls = y.falls + rise load (y .state .load);
 }
-recorded site (stepTaken t) y =
-    record { solids = y.solids; state = afterEvent site (stepTaken t) (y .state); rises = y.rises; falls = y.falls }
+recorded site (stepTaken t) y = record {
+  solids = y.solids;
+  state = afterEvent (tallySite site y) (stepTaken t) (y .state);
+  rises = y.rises;
+  falls = y.falls;
+}
 
 unfoldable pub tallied : Site → List Event → Tally → Tally
 unfolding recorded
@@ -52,10 +70,10 @@ pub record Course : Type 0 where
   pub tally : Tally
 
 unfoldable pub course : Site → List Call → Tally → Course
-unfolding outcome tallied
+unfolding outcome tallied tallySite
 course site [] y = record { answers = []; events = []; tally = y }
 course site (call ∷ rest) y =
-    let o = outcome site (y .state) call in
+    let o = outcome (tallySite site y) (y .state) call in
     let more = course site rest (tallied site (o .events) y) in
     record { answers = o .answer ∷ more .answers; events = o .events ++ more .events; tally = more .tally }
 

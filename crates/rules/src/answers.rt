@@ -1,3 +1,5 @@
+use crate::record::Frame;
+use crate::record::Progress;
 use crate::record::Record;
 
 // Why the key is withheld, in the order of the causes' numbers.
@@ -39,6 +41,19 @@ pub enum Call {
 pub enum Answer {
     Done,
     Ran(Stop, u64),
+    Refused(Refusal),
+}
+
+// How a run ended: its stop, its number of steps, and what it leaves of the layer beside the water.
+pub struct Ended {
+    pub stop: Stop,
+    pub steps: u64,
+    pub progress: Progress,
+}
+
+// What a job's description answers: the numbers of its layer, or a refusal.
+pub enum Acceptance {
+    Accepted(Frame, Progress),
     Refused(Refusal),
 }
 

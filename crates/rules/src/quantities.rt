@@ -1,6 +1,6 @@
 ghost use mathlib.Core.Path.{_≡_};
 ghost use Rattle.numbers.specs.Interval.{Within};
-ghost use Rattle.rules.specs.Quantities.{within, withinℤ, stressLimits, voidLimits, conductivityLimits, levelLimits, clockLimits, solidsLimits, waterLimits, stepLimits, budgetLimits, gravityLimits, elementLimits, curveLimits, tableLimits, flagLimits, startingWaterLimits, pressureOf, from_to_};
+ghost use Rattle.rules.specs.Quantities.{within, withinℤ, stressLimits, voidLimits, conductivityLimits, levelLimits, clockLimits, solidsLimits, waterLimits, stepLimits, budgetLimits, gravityLimits, elementLimits, curveLimits, tableLimits, flagLimits, startingWaterLimits, limitsOf, pressureOf, from_to_};
 ghost use Rattle.rules.specs.Tested.{testedHead, testedPressure, testedVoid, testedClock};
 
 // Whether a number keeps limits.
@@ -59,7 +59,7 @@ impl Head {
 
     // The pressure of the head, by the weight of water, cut toward zero.
     pub fn as_pressure(self) -> Pressure
-        requires { ⌜ Within (self .0) 200_000_000_000 ⌝ }
+        requires { ⌜ Within (self .0) (levelLimits .most) ⌝ }
         ensures { λ r. ⌜ r ≡ pressureOf self ⌝ }
     {
         Pressure(numbers::cut(self.0 * 981, 100_000))
@@ -326,6 +326,51 @@ impl StartingWater {
         ensures { λ r. ⌜ r ≡ within startingWaterLimits n ⌝ }
     {
         within(StartingWater::LEAST, StartingWater::MOST, n)
+    }
+}
+
+// What has flowed out through an outer face since the opening, in nanometres.
+pub struct Outflow(pub i64);
+
+impl Outflow {
+    // The most, in size, for each second of the clock.
+    pub const RATE: u64 = 2_300_000_000;
+}
+
+// The kinds of quantity that arrays hold. A field that must be 0 is a kind of its own.
+pub enum Kind {
+    Stress,
+    Void,
+    Conductivity,
+    Time,
+    Solids,
+    Water,
+    Zero,
+}
+
+impl Kind {
+    // Whether a number keeps the limits of the kind.
+    pub fn keeps(self, n: u64) -> bool
+        ensures { λ r. ⌜ r ≡ within (limitsOf self) n ⌝ }
+    {
+        match self {
+            Kind::Stress => match Pressure::new(n) {
+                TestedPressure::Within(_) => true,
+                TestedPressure::Outside => false,
+            },
+            Kind::Void => match Void::new(n) {
+                TestedVoid::Within(_) => true,
+                TestedVoid::Outside => false,
+            },
+            Kind::Conductivity => Conductivity::holds(n),
+            Kind::Time => match Clock::new(n) {
+                TestedClock::Within(_) => true,
+                TestedClock::Outside => false,
+            },
+            Kind::Solids => Solids::holds(n),
+            Kind::Water => Water::holds(n),
+            Kind::Zero => n == 0,
+        }
     }
 }
 

@@ -70,18 +70,11 @@ pub fn site(of: Record) {
     let mut out = [0u8; 256];
     let n = lines::put_site(&mut out, of);
     line(b"site", &out, n);
-    let solids = of.solids;
-    elements(b"solids", &solids);
-    let stress = of.compressibility_stress;
-    points(b"stress", &stress);
-    let void = of.compressibility_void;
-    points(b"void", &void);
-    let conductivity_void = of.conductivity_void;
-    points(b"conductivity_void", &conductivity_void);
-    let conductivity = of.conductivity;
-    points(b"conductivity", &conductivity);
-    let time = of.table_time;
-    points(b"time", &time);
-    let load = of.table_load;
-    points(b"load_at", &load);
+    elements(b"solids", &of.layer.solids);
+    points(b"stress", &of.soil.compressibility_stress);
+    points(b"void", &of.soil.compressibility_void);
+    points(b"conductivity_void", &of.soil.conductivity_void);
+    points(b"conductivity", &of.soil.conductivity);
+    points(b"time", &of.layer.table_time);
+    points(b"load_at", &of.layer.table_load);
 }

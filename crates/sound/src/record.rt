@@ -1,38 +1,70 @@
 // Whether any record is a layer.
 ghost use mathlib.Core.Bool.{true};
 ghost use mathlib.Core.Path.{_≡_};
-ghost use Rattle.rules.specs.Record.{siteSound, stateSound, isLayer};
+ghost use Prim.Native.Nat.{_≤_};
+ghost use Rattle.rules.specs.Layer.{topPressure, bottomPressure};
+ghost use Rattle.rules.specs.Record.{headerSound, faceNumber, faceHolds, siteSound, stateSound, isLayer};
+ghost use mathlib.Core.Bool.{_&&_};
+ghost use Rattle.laws.specs.Amid.{Between};
+ghost use Rattle.rules.specs.Quantities.{levelLimits};
+ghost use lib.IntN.{pos};
 use holdings::balance;
 use holdings::faces;
 use holdings::sizes;
 use job::header;
 use points::checks;
 use rules::quantities::Clock;
+use rules::quantities::Pressure;
 use rules::quantities::StartingWater;
+use rules::quantities::TestedClock;
+use rules::record::CurveCounts;
+use rules::record::Frame;
 use rules::record::Record;
 
-// Whether what a record holds of a job meets the causes 3 and 5 to 8, and its faces hold 0 and P.
-pub fn site_sound(layer: Record) -> bool
-    ensures { λ r. ⌜ r ≡ siteSound layer ⌝ }
+// Cause 3, of a record's numbers.
+pub fn numbers_sound(counts: CurveCounts, frame: Frame) -> bool
+    ensures { λ r. ⌜ r ≡ headerSound (faceNumber (frame .top)) (faceNumber (frame .bottom)) (frame .elements) (counts .compressibility) (counts .conductivity) (frame .«table_points») 0 (frame .gravity) ⌝ }
 {
-    let n = layer.elements;
-    let m = layer.compressibility_points;
-    let k = layer.conductivity_points;
-    let times = layer.table_points;
-    let top = layer.top;
-    let bottom = layer.bottom;
-    let top_level = layer.top_level;
-    let bottom_level = layer.bottom_level;
-    if !header::header_sound(
+    let top = frame.top;
+    let bottom = frame.bottom;
+    header::header_sound(
         faces::face_number(top),
         faces::face_number(bottom),
-        n,
-        m,
-        k,
-        times,
+        frame.elements,
+        counts.compressibility,
+        counts.conductivity,
+        frame.table_points,
         0,
-        layer.gravity,
-    ) {
+        frame.gravity,
+    )
+}
+
+// Whether the faces hold 0 and P.
+pub fn faces_sound(frame: Frame) -> bool
+    requires { ⌜ Between (pos 0) (pos (levelLimits .most)) (frame .«top_level» .0) × Between (pos 0) (pos (levelLimits .most)) (frame .«bottom_level» .0) ⌝ }
+    ensures { λ r. ⌜ r ≡ (faceHolds (frame .top) topPressure && faceHolds (frame .bottom) (bottomPressure (frame .«top_level» .0) (frame .«bottom_level» .0))) ⌝ }
+{
+    let top = frame.top;
+    let bottom = frame.bottom;
+    let top_level = frame.top_level;
+    let bottom_level = frame.bottom_level;
+    let held = faces::bottom_pressure(top_level, bottom_level);
+    faces::face_holds(top, Pressure(0)) & faces::face_holds(bottom, held)
+}
+
+// Whether what a record holds of a job meets the causes 3 and 5 to 8, and its faces hold 0 and P.
+pub fn site_sound(r: Record) -> bool
+    ensures { λ sound. ⌜ sound ≡ siteSound r ⌝ }
+{
+    let frame = r.layer.frame;
+    let counts = r.soil.counts;
+    let n = frame.elements;
+    let m = counts.compressibility;
+    let k = counts.conductivity;
+    let bottom = frame.bottom;
+    let top_level = frame.top_level;
+    let bottom_level = frame.bottom_level;
+    if !numbers_sound(counts, frame) {
         return false;
     }
     if !sizes::sizes_sound(
@@ -40,84 +72,84 @@ pub fn site_sound(layer: Record) -> bool
         top_level,
         bottom_level,
         bottom,
-        &layer.solids,
-        &layer.water,
+        &r.layer.solids,
+        &r.layer.water,
     ) {
         return false;
     }
     if !checks::compressibility_sound(
         m,
-        &layer.compressibility_void,
-        &layer.compressibility_stress,
+        &r.soil.compressibility_void,
+        &r.soil.compressibility_stress,
     ) {
         return false;
     }
     if !checks::conductivity_sound(
         k,
-        &layer.conductivity_void,
-        &layer.conductivity,
+        &r.soil.conductivity_void,
+        &r.soil.conductivity,
         m,
-        &layer.compressibility_void,
-        &layer.compressibility_stress,
+        &r.soil.compressibility_void,
+        &r.soil.compressibility_stress,
     ) {
         return false;
     }
-    if !table::table_sound(times, &layer.table_time, &layer.table_load) {
+    if !table::table_sound(frame.table_points, &r.layer.table_time, &r.layer.table_load) {
         return false;
     }
-    if !faces::face_holds(top, 0) {
-        return false;
-    }
-    let held = faces::bottom_pressure(top_level.0, bottom_level.0);
-    faces::face_holds(bottom, held.0)
+    faces_sound(frame)
 }
 
 // Whether the state of a record with a sound site is sound.
-pub fn state_sound(layer: Record) -> bool
-    requires { ⌜ siteSound layer ≡ true ⌝ }
-    ensures { λ r. ⌜ r ≡ stateSound layer ⌝ }
+pub fn state_sound(r: Record) -> bool
+    requires { ⌜ siteSound r ≡ true ⌝ }
+    ensures { λ sound. ⌜ sound ≡ stateSound r ⌝ }
 {
-    let n = layer.elements;
-    let load = layer.load;
-    let clock = layer.clock;
-    let seconds = clock.0;
-    let starting = layer.starting_water;
-    let top = layer.top_outflow;
-    let bottom = layer.bottom_outflow;
+    let frame = r.layer.frame;
+    let progress = r.layer.progress;
+    let n = frame.elements;
+    let m = r.soil.counts.compressibility;
+    let load = progress.load;
+    let clock = progress.clock;
+    let starting = frame.starting_water;
+    let top = progress.top_outflow;
+    let bottom = progress.bottom_outflow;
     if !start::all_on_curve(
         n,
-        &layer.solids,
-        &layer.water,
-        layer.compressibility_points,
-        &layer.compressibility_void,
-        &layer.compressibility_stress,
+        &r.layer.solids,
+        &r.layer.water,
+        m,
+        &r.soil.compressibility_void,
+        &r.soil.compressibility_stress,
     ) {
         return false;
     }
     if !load.is_stress() {
         return false;
     }
-    if !Clock::holds(seconds) {
+    let TestedClock::Within(now) = Clock::new(clock.0) else {
         return false;
-    }
+    };
     if !StartingWater::holds(starting) {
         return false;
     }
-    if !balance::outflow_sound(top, seconds) {
+    if !(balance::outflow_sound(top, now) & balance::outflow_sound(bottom, now)) {
         return false;
     }
-    if !balance::outflow_sound(bottom, seconds) {
-        return false;
-    }
-    balance::balances(starting, balance::total_water(n, &layer.water), top, bottom)
+    balance::balances(
+        starting,
+        balance::total_water(n, &r.layer.water),
+        top,
+        bottom,
+    )
 }
 
 // Whether a record is a layer.
-pub fn is_layer(layer: Record) -> bool
-    ensures { λ r. ⌜ r ≡ isLayer layer ⌝ }
+pub fn is_layer(r: Record) -> bool
+    ensures { λ layer. ⌜ layer ≡ isLayer r ⌝ }
 {
-    if !site_sound(layer) {
+    if !site_sound(r) {
         return false;
     }
-    state_sound(layer)
+    state_sound(r)
 }

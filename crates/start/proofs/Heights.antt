@@ -2,15 +2,19 @@
 use Prim.Native.Nat.{ℕ, zero, suc, _+_, _≤_, _<_}
 use native.Mathlib.Omega.{arith}
 use lib.Dec.{leb}
+use lib.ListN.{length}
 use borrow.Author.Tests.{le-leb, lt-leb}
 use mathlib.Core.Bool.{Bool, true, false}
 use mathlib.Core.List.{List, [], _∷_}
 use mathlib.Core.Option.{Option, none, some, Option·none-ne-some}
 use mathlib.Core.Path.{_≡_, refl, sym, ap, _∙_}
+use Rattle.laws.specs.Every.{Every}
 use Rattle.numbers.specs.Arrays.{tabulate}
+use Rattle.numbers.specs.Lists.{least}
 use Rattle.rules.specs.Curve.{Point}
-use Rattle.rules.specs.Layer.{Site}
-use Rattle.rules.specs.Start.{restingWater, lastStress, prepended, restingFrom}
+use Rattle.rules.specs.Layer.{Site, effectiveStress}
+use Rattle.rules.specs.Quantities.{waterLimits}
+use Rattle.rules.specs.Start.{atMost, restingWater, lastStress, prepended, restingFrom}
 use Rattle.start.specs.Rest.{restingUnder, restingHeights}
 
 module _ (curve : List Point) (load B S : ℕ) where
@@ -93,3 +97,50 @@ heights-until curve load (suc n) (suc j) B S h k e f =
     rw (e 0 (omega arith), restingHeights)
     (ap (λ (l : List ℕ). h 0 ∷ l)
     (heights-until curve load n j (λ i. B (suc i)) (λ i. S (suc i)) (λ i. h (suc i)) (omega arith) (λ i l. e (suc i) (omega arith)) (λ l. f (omega arith))))
+
+-- ---- how many heights, and how high
+
+-- the least that passes a test is one of those tried
+least-below : (test : ℕ → Bool) (count n found : ℕ) → least count n test ≡ some found → found < n + count
+unfolding least
+least-below test zero n found e = absurd (Option·none-ne-some found e)
+least-below test (suc count) n found e = go (test n) e (least-below test count (suc n) found)
+  where
+    go : (passes : Bool) → elim passes as (λ _. Option ℕ) [ true ↦ some n | false ↦ least count (suc n) test ] ≡ some found →
+        (least count (suc n) test ≡ some found → found < suc n + count) → found < n + suc count
+    go true e later = let same : n ≡ found = cc in omega arith
+    go false e later = omega (arith, later e)
+
+module _ (curve : List Point) (load : ℕ) where
+  under-most : (B S W : ℕ) → restingUnder curve load B S ≡ some W → W ≤ waterLimits .most
+  unfolding restingUnder restingWater
+  under-most B S W e = go (leb (load + B) (lastStress curve)) e
+    where
+      go : (under : Bool) → elim under as (λ _. Option ℕ) [ true ↦ restingWater curve S (load + B) | false ↦ none ] ≡ some W → W ≤ waterLimits .most
+      go true e = omega (arith, least-below (λ U. atMost (effectiveStress curve S U) (load + B)) 1_000_000_001 0 W e)
+      go false e = absurd (Option·none-ne-some W e)
+
+  -- each keeps the greatest height
+  pub heights-most : (Bs Ss : List ℕ) → Every (λ W. W ≤ waterLimits .most) (restingHeights curve load Bs Ss)
+  unfolding restingHeights Every
+  heights-most [] Ss = tt
+  heights-most (B ∷ Bs) [] = tt
+  heights-most (B ∷ Bs) (S ∷ Ss) = go (restingUnder curve load B S) (under-most B S) (heights-most Bs Ss)
+    where
+      go : (o : Option ℕ) → ((W : ℕ) → o ≡ some W → W ≤ waterLimits .most) →
+          Every (λ W. W ≤ waterLimits .most) (restingHeights curve load Bs Ss) →
+          Every (λ W. W ≤ waterLimits .most) (elim o [ some W ↦ W ∷ restingHeights curve load Bs Ss | none ↦ [] ])
+      go (some W) most rest = (most W refl, rest)
+      go none most rest = tt
+
+  -- there are no more of them than elements
+  pub heights-few : (Bs Ss : List ℕ) → length (restingHeights curve load Bs Ss) ≤ length Bs
+  unfolding restingHeights
+  heights-few [] Ss = omega arith
+  heights-few (B ∷ Bs) [] = omega arith
+  heights-few (B ∷ Bs) (S ∷ Ss) = go (restingUnder curve load B S) (heights-few Bs Ss)
+    where
+      go : (o : Option ℕ) → length (restingHeights curve load Bs Ss) ≤ length Bs →
+          length {A = ℕ} (elim o as (λ _. List ℕ) [ some W ↦ W ∷ restingHeights curve load Bs Ss | none ↦ [] ]) ≤ length {A = ℕ} (B ∷ Bs)
+      go (some W) h = omega arith
+      go none h = omega arith

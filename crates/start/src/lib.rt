@@ -1,17 +1,15 @@
 // The water of an opened layer: as given, or at rest under a load.
-ghost use lib.Dec.{leb};
 ghost use lib.IntN.{pos};
 ghost use lib.ListN.{length, getD};
-ghost use mathlib.Core.Bool.{true, _&&_};
+ghost use mathlib.Core.Bool.{true};
 ghost use mathlib.Core.List.{map};
 ghost use mathlib.Core.Path.{_≡_};
 ghost use Prim.Native.Nat.{ℕ, _≤_, _<_};
 ghost use Rattle.element.specs.Elements.{mostBurden};
-ghost use Rattle.laws.specs.Bounds.{lowestWater, highestWater};
 ghost use Rattle.numbers.specs.Arrays.{firstPlaces, overlaid};
-ghost use Rattle.rules.specs.Curve.{points, compressibilitySound};
+ghost use Rattle.rules.specs.Curve.{points, isOn, compressibilitySound};
 ghost use Rattle.rules.specs.Layer.{Site, effectiveStress};
-ghost use Rattle.rules.specs.Quantities.{stressLimits, voidLimits, solidsLimits, waterLimits};
+ghost use Rattle.rules.specs.Quantities.{stressLimits, solidsLimits, waterLimits};
 ghost use Rattle.rules.specs.Start.{atMost, restingWater, restingFrom};
 ghost use Rattle.rules.specs.Step.{allOnCurve};
 ghost use Rattle.start.specs.Rest.{restingAnswer, restingUnder, restingHeights, allOrNone};
@@ -24,16 +22,25 @@ pub enum Resting {
     Nowhere,
 }
 
-// Whether an element is on a curve that goes from a least to a greatest void ratio, whatever its water.
-pub fn on_curve(solids: u64, water: u64, least: u64, greatest: u64) -> bool
-    requires { ⌜ (0 < solids) × (solids ≤ solidsLimits .most) ⌝ }
-    requires { ⌜ (least ≤ voidLimits .most) × (greatest ≤ voidLimits .most) ⌝ }
-    ensures { λ r. ⌜ r ≡ leb (lowestWater solids least) water && leb water (highestWater solids greatest) ⌝ }
+// Whether an element is on a sound compressibility curve.
+pub fn on_curve<'a>(
+    solids: u64,
+    water: u64,
+    m: usize,
+    void: &'a [u64; 64],
+    stress: &'a [u64; 64],
+) -> bool
+    requires { ⌜ (0 < solids) × (water ≤ waterLimits .most) ⌝ }
+    requires { ⌜ (2 ≤ m) × (m ≤ 64) ⌝ }
+    requires { ⌜ compressibilitySound (points m (now void) (now stress)) ≡ true ⌝ }
+    ensures { λ r. ⌜ r ≡ isOn (effectiveStress (points m (now (void .entry)) (now (stress .entry))) solids water) ⌝ }
 {
-    water::lowest_water(solids, least) <= water && water <= water::highest_water(solids, greatest)
+    let found = element::effective_stress(solids, water, m, void, stress, 0);
+    let value = found.value;
+    reading::is_on(value)
 }
 
-// Whether every element is on a sound compressibility curve, whatever its water. The stresses only say which curve.
+// Whether every element is on a sound compressibility curve.
 pub fn all_on_curve<'a>(
     n: usize,
     solids: &'a [u64; 128],
@@ -43,16 +50,14 @@ pub fn all_on_curve<'a>(
     stress: &'a [u64; 64],
 ) -> bool
     requires { ⌜ n ≤ 128 ⌝ }
-    requires { ⌜ ((j : ℕ) → j < n → (0 < getD (now solids) j 0) × (getD (now solids) j 0 ≤ solidsLimits .most)) ⌝ }
+    requires { ⌜ ((j : ℕ) → j < n → (0 < getD (now solids) j 0) × (getD (now water) j 0 ≤ waterLimits .most)) ⌝ }
     requires { ⌜ (2 ≤ m) × (m ≤ 64) ⌝ }
     requires { ⌜ compressibilitySound (points m (now void) (now stress)) ≡ true ⌝ }
     ensures { λ r. ⌜ r ≡ allOnCurve (points m (now (void .entry)) (now (stress .entry))) (firstPlaces n (now (solids .entry))) (map pos (firstPlaces n (now (water .entry)))) ⌝ }
 {
-    let least = void[m - 1];
-    let greatest = void[0];
     let mut j: usize = 0;
     while j < n {
-        if !on_curve(solids[j], water[j], least, greatest) {
+        if !on_curve(solids[j], water[j], m, void, stress) {
             return false;
         }
         j += 1;
@@ -74,8 +79,7 @@ pub fn rests<'a>(
     requires { ⌜ compressibilitySound (points m (now void) (now stress)) ≡ true ⌝ }
     ensures { λ r. ⌜ r ≡ atMost (effectiveStress (points m (now (void .entry)) (now (stress .entry))) solids water) most ⌝ }
 {
-    let ratio = element::void_ratio(solids, water);
-    let found = reading::read_from_first(m, void, stress, ratio);
+    let found = element::effective_stress(solids, water, m, void, stress, 0);
     let value = found.value;
     match value {
         CurveValue::On(read) => read <= most,

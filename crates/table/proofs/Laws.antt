@@ -27,8 +27,8 @@ use Rattle.points.specs.declared.checks.Trend.the-variants.{Later}
 pub record Tabled (n : ℕ) (time load : List ℕ) : Type 0 where
   pub first-time : 0 < n → getD time 0 0 ≡ 0
   pub time-rises : (i : ℕ) → i + 1 < n → getD time i 0 < getD time (i + 1) 0
-  pub time-high : (i : ℕ) → i < n → getD time i 0 ≤ 3_000_000_000
-  pub load-high : (i : ℕ) → i < n → getD load i 0 ≤ 2_000_000_000
+  pub time-high : (i : ℕ) → i < n → getD time i 0 ≤ clockLimits .most
+  pub load-high : (i : ℕ) → i < n → getD load i 0 ≤ stressLimits .most
 
 -- the load when a part of a segment's whole time has passed
 abbrev pub segmentLoad : (load0 load1 part whole : ℕ) → ℤ
@@ -111,7 +111,7 @@ module _ (n : ℕ) (time load : List ℕ) where
     unfolding trendKept
     rises i h = ltb→lt (getD time i 0) (getD time (i + 1) 0) (neighbours-at n time load (trendKept Later) (passes .0 .1) i h)
 
-    high : (i : ℕ) → i < n → (getD time i 0 ≤ 3_000_000_000) × (getD load i 0 ≤ 2_000_000_000)
+    high : (i : ℕ) → i < n → (getD time i 0 ≤ clockLimits .most) × (getD load i 0 ≤ stressLimits .most)
     high i h =
         let kept = all-at n time load (pointKept clockLimits stressLimits) (passes .1) i h in
         let (t, l) = both (within clockLimits (getD time i 0)) (within stressLimits (getD load i 0)) kept in

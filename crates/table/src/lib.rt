@@ -9,11 +9,10 @@ ghost use Rattle.numbers.specs.Interval.{Within};
 ghost use Rattle.numbers.specs.Rounding.{cut};
 ghost use Rattle.rules.specs.Curve.{points};
 ghost use Rattle.rules.specs.Load.{tableSound, loadAt, nextTime};
-ghost use Rattle.rules.specs.Quantities.{stressLimits, clockLimits};
+ghost use Rattle.rules.specs.Quantities.{stressLimits, clockLimits, pressure};
 use points::checks;
-use points::checks::Range;
 use points::checks::Trend;
-use rules::quantities::Clock;
+use rules::quantities::Kind;
 use rules::quantities::Pressure;
 
 // Whether the first time is 0, times strictly rise, and times and loads keep their limits.
@@ -24,16 +23,8 @@ pub fn table_sound<'a>(n: usize, time: &'a [u64; 64], load: &'a [u64; 64]) -> bo
     if n > 0 && time[0] != 0 {
         return false;
     }
-    let clock = Range {
-        least: Clock::LEAST,
-        most: Clock::MOST,
-    };
-    let stress = Range {
-        least: Pressure::LEAST,
-        most: Pressure::MOST,
-    };
     checks::neighbours_kept(Trend::Later, n, time, load)
-        && checks::points_kept(n, time, load, clock, stress)
+        && checks::points_kept(n, time, load, Kind::Time, Kind::Stress)
 }
 
 // By how much a load changes to another.
@@ -45,24 +36,24 @@ pub fn load_change(load0: u64, load1: u64) -> i64
 }
 
 // The load at a time between two points, cut from the first: a stress within its limits.
-pub fn load_between(time0: u64, load0: u64, time1: u64, load1: u64, clock: u64) -> i64
+pub fn load_between(time0: u64, load0: u64, time1: u64, load1: u64, clock: u64) -> Pressure
     requires { ⌜ (time0 ≤ clock) × ((clock < time1) × (time1 ≤ clockLimits .most)) ⌝ }
     requires { ⌜ (load0 ≤ stressLimits .most) × (load1 ≤ stressLimits .most) ⌝ }
-    ensures { λ r. ⌜ r ≡ pos load0 +ℤ cut ((pos load1 -ℤ pos load0) *ℤ pos (clock - time0)) (time1 - time0) ⌝ }
-    ensures { λ r. ⌜ (pos 0 ≤ℤ r) × (r ≤ℤ pos (stressLimits .most)) ⌝ }
+    ensures { λ r. ⌜ r ≡ pressure (pos load0 +ℤ cut ((pos load1 -ℤ pos load0) *ℤ pos (clock - time0)) (time1 - time0)) ⌝ }
+    ensures { λ r. ⌜ (pos 0 ≤ℤ r .0) × (r .0 ≤ℤ pos (stressLimits .most)) ⌝ }
 {
     let change = load_change(load0, load1);
     let passed = (clock - time0) as i64;
     let whole = (time1 - time0) as i64;
-    load0 as i64 + numbers::cut(change * passed, whole)
+    Pressure(load0 as i64 + numbers::cut(change * passed, whole))
 }
 
 // The load of a sound table at a time: a stress within its limits.
-pub fn load_at<'a>(n: usize, time: &'a [u64; 64], load: &'a [u64; 64], clock: u64) -> i64
+pub fn load_at<'a>(n: usize, time: &'a [u64; 64], load: &'a [u64; 64], clock: u64) -> Pressure
     requires { ⌜ (1 ≤ n) × (n ≤ 64) ⌝ }
     requires { ⌜ tableSound (points n (now time) (now load)) ≡ true ⌝ }
-    ensures { λ r. ⌜ r ≡ loadAt (points n (now (time .entry)) (now (load .entry))) clock ⌝ }
-    ensures { λ r. ⌜ (pos 0 ≤ℤ r) × (r ≤ℤ pos (stressLimits .most)) ⌝ }
+    ensures { λ r. ⌜ r ≡ pressure (loadAt (points n (now (time .entry)) (now (load .entry))) clock) ⌝ }
+    ensures { λ r. ⌜ (pos 0 ≤ℤ r .0) × (r .0 ≤ℤ pos (stressLimits .most)) ⌝ }
 {
     let mut i: usize = 0;
     while i + 1 < n {
@@ -71,7 +62,7 @@ pub fn load_at<'a>(n: usize, time: &'a [u64; 64], load: &'a [u64; 64], clock: u6
         }
         i += 1;
     }
-    load[i] as i64
+    Pressure(load[i] as i64)
 }
 
 // The first table time after a time, or another time where there is none: the loads do not matter.

@@ -6,9 +6,14 @@ use mathlib.Core.Bool.{Bool, true, false, _&&_}
 use mathlib.Core.List.{List}
 use Rattle.numbers.specs.Arrays.{filled, zeros}
 use Rattle.rules.specs.Quantities.{head, pressure}
+use Rattle.rules.specs.Record.{soilOf, layerOf, recordOf}
 use Rattle.rules.specs.declared.quantities.Face.{Face}
 use Rattle.rules.specs.declared.quantities.Face.the-variants.{Closed, Drained}
+use Rattle.rules.specs.declared.record.Frame.{Frame}
+use Rattle.rules.specs.declared.record.Layer.{Layer}
+use Rattle.rules.specs.declared.record.Progress.{Progress}
 use Rattle.rules.specs.declared.record.Record.{Record}
+use Rattle.rules.specs.declared.record.Soil.{Soil}
 use Rattle.text.specs.Text.{wordAt, signedNumber}
 
 -- the face that two words say
@@ -56,30 +61,46 @@ unfoldable pub isBody : (kind : ℕ) (body : List ℕ) → Bool
 unfolding isRecord
 isBody kind body = elim (eqb kind 0) [ true ↦ true | false ↦ isRecord body ]
 
--- the record
-unfoldable pub recordIn : List ℕ → Record
-unfolding wordAt signedNumber faceIn column firstCurveAt secondCurveAt tableAt
-recordIn body = record {
+-- the soil: a pair of the first curve is a stress and a void ratio, one of the second a void ratio and a conductivity
+unfoldable pub soilIn : List ℕ → Soil
+unfolding wordAt column firstCurveAt secondCurveAt
+soilIn body =
+    soilOf (record { compressibility = wordAt body 8; conductivity = wordAt body 16 })
+    (column 64 body (firstCurveAt body + 8) (wordAt body 136)) (column 64 body (firstCurveAt body) (wordAt body 136))
+    (column 64 body (secondCurveAt body) (wordAt body 144)) (column 64 body (secondCurveAt body + 8) (wordAt body 144))
+
+-- the numbers of the layer: those that no call changes, and the others
+unfoldable pub frameIn : List ℕ → Frame
+unfolding wordAt signedNumber faceIn
+frameIn body = record {
   top = faceIn (wordAt body 40) (wordAt body 48);
   bottom = faceIn (wordAt body 56) (wordAt body 64);
   elements = wordAt body 0;
-  «compressibility_points» = wordAt body 8;
-  «conductivity_points» = wordAt body 16;
   «table_points» = wordAt body 24;
   gravity = wordAt body 32;
   «top_level» = head (signedNumber (wordAt body 72));
   «bottom_level» = head (signedNumber (wordAt body 80));
-  solids = column 128 body 160 (wordAt body 128);
-  water = column 128 body 168 (wordAt body 128);
-  «compressibility_stress» = column 64 body (firstCurveAt body) (wordAt body 136);
-  «compressibility_void» = column 64 body (firstCurveAt body + 8) (wordAt body 136);
-  «conductivity_void» = column 64 body (secondCurveAt body) (wordAt body 144);
-  conductivity = column 64 body (secondCurveAt body + 8) (wordAt body 144);
-  «table_time» = column 64 body (tableAt body) (wordAt body 152);
-  «table_load» = column 64 body (tableAt body + 8) (wordAt body 152);
-  load = pressure (signedNumber (wordAt body 88));
-  clock = record { 0 = wordAt body 96 };
-  «top_outflow» = signedNumber (wordAt body 104);
-  «bottom_outflow» = signedNumber (wordAt body 112);
   «starting_water» = wordAt body 120;
 }
+
+unfoldable pub progressIn : List ℕ → Progress
+unfolding wordAt signedNumber
+progressIn body = record {
+  load = pressure (signedNumber (wordAt body 88));
+  clock = record { 0 = wordAt body 96 };
+  «top_outflow» = record { 0 = signedNumber (wordAt body 104) };
+  «bottom_outflow» = record { 0 = signedNumber (wordAt body 112) };
+}
+
+-- the layer
+unfoldable pub layerIn : List ℕ → Layer
+unfolding wordAt column tableAt frameIn progressIn
+layerIn body =
+    layerOf (frameIn body) (progressIn body)
+    (column 128 body 160 (wordAt body 128)) (column 128 body 168 (wordAt body 128))
+    (column 64 body (tableAt body) (wordAt body 152)) (column 64 body (tableAt body + 8) (wordAt body 152))
+
+-- the record
+unfoldable pub recordIn : List ℕ → Record
+unfolding soilIn layerIn
+recordIn body = recordOf (soilIn body) (layerIn body)

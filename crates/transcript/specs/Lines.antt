@@ -1,11 +1,14 @@
 -- Answers, states and sites as text: numbers, each after a space.
 use Prim.Native.Nat.{ℕ}
 use lib.Dec.{ltb, eqb}
-use lib.IntN.{ℤ}
 use mathlib.Core.Bool.{true, false}
 use mathlib.Core.List.{List, _++_}
 use Rattle.rules.specs.declared.quantities.Face.{Face}
 use Rattle.rules.specs.declared.quantities.Face.the-variants.{Closed, Drained}
+use Rattle.rules.specs.declared.quantities.Head.{Head}
+use Rattle.rules.specs.declared.record.CurveCounts.{CurveCounts}
+use Rattle.rules.specs.declared.record.Frame.{Frame}
+use Rattle.rules.specs.declared.record.Progress.{Progress}
 use Rattle.rules.specs.declared.record.Record.{Record}
 use Rattle.text.specs.Text.{spaced, signedSpaced, row, trimmed}
 
@@ -24,21 +27,23 @@ unfolding row trimmed
 columnText values = row (trimmed values)
 
 -- load, clock, outflows of top and bottom, starting water
-unfoldable pub amountsText : (load : ℤ) (clock : ℕ) (top bottom : ℤ) (start : ℕ) → List ℕ
+unfoldable pub amountsText : Progress → (start : ℕ) → List ℕ
 unfolding spaced signedSpaced
-amountsText load clock top bottom start =
-    signedSpaced load ++ spaced clock ++ signedSpaced top ++ signedSpaced bottom ++ spaced start
+amountsText p start =
+    signedSpaced (p .load .0) ++ spaced (p .clock .0) ++ signedSpaced (p .«top_outflow» .0) ++ signedSpaced (p .«bottom_outflow» .0) ++
+    spaced start
 
 -- what calls change of a record, and its starting water
 unfoldable pub stateText : Record → List ℕ
 unfolding amountsText columnText
-stateText r =
-    amountsText (r .load .0) (r .clock .0) (r .«top_outflow») (r .«bottom_outflow») (r .«starting_water») ++ columnText r.water
+stateText r = amountsText (r .layer .progress) (r .layer .frame .«starting_water») ++ columnText (r .layer .water)
 
 -- counts of elements and of points of both curves and the load table, gravity
-unfoldable pub countsText : (elements first second table gravity : ℕ) → List ℕ
+unfoldable pub countsText : CurveCounts → Frame → List ℕ
 unfolding spaced
-countsText elements first second table gravity = spaced elements ++ spaced first ++ spaced second ++ spaced table ++ spaced gravity
+countsText curves frame =
+    spaced (frame .elements) ++ spaced (curves .compressibility) ++ spaced (curves .conductivity) ++ spaced (frame .«table_points») ++
+    spaced (frame .gravity)
 
 -- 0 and 0, or 1 and the pressure held
 unfoldable pub faceText : Face → List ℕ
@@ -46,13 +51,14 @@ unfolding spaced signedSpaced
 faceText Closed = spaced 0 ++ spaced 0
 faceText (Drained held) = spaced 1 ++ signedSpaced (held .0)
 
-unfoldable pub levelsText : (top bottom : ℤ) → List ℕ
+unfoldable pub levelsText : (top bottom : Head) → List ℕ
 unfolding signedSpaced
-levelsText top bottom = signedSpaced top ++ signedSpaced bottom
+levelsText top bottom = signedSpaced (top .0) ++ signedSpaced (bottom .0)
 
 -- what no call changes of a record, but for its arrays
 unfoldable pub siteText : Record → List ℕ
 unfolding countsText faceText levelsText
 siteText r =
-    countsText r.elements (r .«compressibility_points») (r .«conductivity_points») (r .«table_points») r.gravity ++
-    faceText r.top ++ faceText r.bottom ++ levelsText (r .«top_level» .0) (r .«bottom_level» .0)
+    let frame = r .layer .frame in
+    countsText (r .soil .counts) frame ++ faceText (frame .top) ++ faceText (frame .bottom) ++
+    levelsText (frame .«top_level») (frame .«bottom_level»)

@@ -4,12 +4,18 @@ ghost use mathlib.Core.Bool.{true};
 ghost use mathlib.Core.Path.{_≡_};
 ghost use Prim.Native.Nat.{ℕ, _+_, _*_, _≤_};
 ghost use Rattle.numbers.specs.Arrays.{filled};
-ghost use Rattle.transcript.specs.Input.{faceIn, wordOf, pairAt, column, isRecord, recordIn};
+ghost use Rattle.transcript.specs.Input.{faceIn, wordOf, pairAt, column, firstCurveAt, secondCurveAt, tableAt, isRecord, soilIn, frameIn, progressIn, layerIn, recordIn};
 use rules::quantities::Clock;
 use rules::quantities::Face;
 use rules::quantities::Head;
+use rules::quantities::Outflow;
 use rules::quantities::Pressure;
+use rules::record::CurveCounts;
+use rules::record::Frame;
+use rules::record::Layer;
+use rules::record::Progress;
 use rules::record::Record;
+use rules::record::Soil;
 
 // The face that two words say.
 fn face(kind: u64, held: u64) -> Face
@@ -91,50 +97,117 @@ pub fn is_record(body: &[u8]) -> bool
     body.len() == (160 + 16 * elements + 16 * stress + 16 * conductivity + 16 * table) as usize
 }
 
+// Where the pairs of the compressibility curve begin.
+fn first_curve_at(body: &[u8]) -> usize
+    requires { ⌜ isRecord (now body) ≡ true ⌝ }
+    ensures { λ r. ⌜ r ≡ firstCurveAt (now (body .entry)) ⌝ }
+{
+    160 + 16 * text::word(body, 128) as usize
+}
+
+// Where the pairs of the conductivity curve begin.
+fn second_curve_at(body: &[u8]) -> usize
+    requires { ⌜ isRecord (now body) ≡ true ⌝ }
+    ensures { λ r. ⌜ r ≡ secondCurveAt (now (body .entry)) ⌝ }
+{
+    first_curve_at(body) + 16 * text::word(body, 136) as usize
+}
+
+// Where the pairs of the load table begin.
+fn table_at(body: &[u8]) -> usize
+    requires { ⌜ isRecord (now body) ≡ true ⌝ }
+    ensures { λ r. ⌜ r ≡ tableAt (now (body .entry)) ⌝ }
+{
+    second_curve_at(body) + 16 * text::word(body, 144) as usize
+}
+
+// The soil that bytes give.
+fn soil(body: &[u8]) -> Soil
+    requires { ⌜ isRecord (now body) ≡ true ⌝ }
+    ensures { λ r. ⌜ r ≡ soilIn (now (body .entry)) ⌝ }
+{
+    let first = text::word(body, 136) as usize;
+    let second = text::word(body, 144) as usize;
+    let first_at = first_curve_at(body);
+    let second_at = second_curve_at(body);
+    let compressibility_stress = column_64(body, first_at, first);
+    let compressibility_void = column_64(body, first_at + 8, first);
+    let conductivity_void = column_64(body, second_at, second);
+    let conductivity = column_64(body, second_at + 8, second);
+    let counts = CurveCounts {
+        compressibility: text::word(body, 8) as usize,
+        conductivity: text::word(body, 16) as usize,
+    };
+    Soil {
+        counts,
+        compressibility_void,
+        compressibility_stress,
+        conductivity_void,
+        conductivity,
+    }
+}
+
+// The numbers of a layer that no call changes, as bytes give them.
+fn frame(body: &[u8]) -> Frame
+    requires { ⌜ 160 ≤ length (now body) ⌝ }
+    ensures { λ r. ⌜ r ≡ frameIn (now (body .entry)) ⌝ }
+{
+    let top = face(text::word(body, 40), text::word(body, 48));
+    let bottom = face(text::word(body, 56), text::word(body, 64));
+    Frame {
+        top,
+        bottom,
+        elements: text::word(body, 0) as usize,
+        table_points: text::word(body, 24) as usize,
+        gravity: text::word(body, 32),
+        top_level: Head(text::signed(text::word(body, 72))),
+        bottom_level: Head(text::signed(text::word(body, 80))),
+        starting_water: text::word(body, 120),
+    }
+}
+
+// The numbers of a layer that calls change, as bytes give them.
+fn progress(body: &[u8]) -> Progress
+    requires { ⌜ 160 ≤ length (now body) ⌝ }
+    ensures { λ r. ⌜ r ≡ progressIn (now (body .entry)) ⌝ }
+{
+    Progress {
+        load: Pressure(text::signed(text::word(body, 88))),
+        clock: Clock(text::word(body, 96)),
+        top_outflow: Outflow(text::signed(text::word(body, 104))),
+        bottom_outflow: Outflow(text::signed(text::word(body, 112))),
+    }
+}
+
+// The layer that bytes give.
+fn layer(body: &[u8]) -> Layer
+    requires { ⌜ isRecord (now body) ≡ true ⌝ }
+    ensures { λ r. ⌜ r ≡ layerIn (now (body .entry)) ⌝ }
+{
+    let elements = text::word(body, 128) as usize;
+    let points = text::word(body, 152) as usize;
+    let at = table_at(body);
+    let solids = column_128(body, 160, elements);
+    let water = column_128(body, 168, elements);
+    let table_time = column_64(body, at, points);
+    let table_load = column_64(body, at + 8, points);
+    Layer {
+        frame: frame(body),
+        progress: progress(body),
+        solids,
+        water,
+        table_time,
+        table_load,
+    }
+}
+
 // The record that bytes give.
 pub fn record(body: &[u8]) -> Record
     requires { ⌜ isRecord (now body) ≡ true ⌝ }
     ensures { λ r. ⌜ r ≡ recordIn (now (body .entry)) ⌝ }
 {
-    let elements = text::word(body, 128) as usize;
-    let first = text::word(body, 136) as usize;
-    let second = text::word(body, 144) as usize;
-    let table = text::word(body, 152) as usize;
-    let first_at = 160 + 16 * elements;
-    let second_at = first_at + 16 * first;
-    let table_at = second_at + 16 * second;
-    let top = face(text::word(body, 40), text::word(body, 48));
-    let bottom = face(text::word(body, 56), text::word(body, 64));
-    let solids = column_128(body, 160, elements);
-    let water = column_128(body, 168, elements);
-    let compressibility_stress = column_64(body, first_at, first);
-    let compressibility_void = column_64(body, first_at + 8, first);
-    let conductivity_void = column_64(body, second_at, second);
-    let conductivity = column_64(body, second_at + 8, second);
-    let table_time = column_64(body, table_at, table);
-    let table_load = column_64(body, table_at + 8, table);
     Record {
-        top,
-        bottom,
-        elements: text::word(body, 0) as usize,
-        compressibility_points: text::word(body, 8) as usize,
-        conductivity_points: text::word(body, 16) as usize,
-        table_points: text::word(body, 24) as usize,
-        gravity: text::word(body, 32),
-        top_level: Head(text::signed(text::word(body, 72))),
-        bottom_level: Head(text::signed(text::word(body, 80))),
-        solids,
-        water,
-        compressibility_stress,
-        compressibility_void,
-        conductivity_void,
-        conductivity,
-        table_time,
-        table_load,
-        load: Pressure(text::signed(text::word(body, 88))),
-        clock: Clock(text::word(body, 96)),
-        top_outflow: text::signed(text::word(body, 104)),
-        bottom_outflow: text::signed(text::word(body, 112)),
-        starting_water: text::word(body, 120),
+        soil: soil(body),
+        layer: layer(body),
     }
 }

@@ -1,11 +1,14 @@
 // Answers, states and sites as text.
-ghost use lib.IntN.{ℤ};
 ghost use lib.ListN.{length};
 ghost use mathlib.Core.Path.{_≡_};
 ghost use Prim.Native.Nat.{ℕ, _+_, _*_, _≤_};
 ghost use Rattle.text.specs.Text.{Put};
 ghost use Rattle.transcript.specs.Lines.{answerText, columnText, amountsText, stateText, countsText, faceText, levelsText, siteText};
 use rules::quantities::Face;
+use rules::quantities::Head;
+use rules::record::CurveCounts;
+use rules::record::Frame;
+use rules::record::Progress;
 use rules::record::Record;
 
 // Stores an answer's words at the start of a buffer as its call prints them, and gives their length.
@@ -71,15 +74,19 @@ pub fn put_points(out: &mut [u8], at: usize, values: &[u64; 64]) -> usize
 }
 
 // Stores a load, a clock, both outflows and the starting water at the start of a buffer, and gives their length.
-fn put_amounts(out: &mut [u8], load: i64, clock: u64, top: i64, bottom: i64, start: u64) -> usize
+fn put_amounts(out: &mut [u8], of: Progress, start: u64) -> usize
     requires { ⌜ 108 ≤ length (now out) ⌝ }
-    ensures { λ r. ⌜ Put (amountsText load clock top bottom start) (now (out .entry)) 0 (now (out .exit)) r ⌝ }
+    ensures { λ r. ⌜ Put (amountsText of start) (now (out .entry)) 0 (now (out .exit)) r ⌝ }
     ensures { λ r. ⌜ r ≤ 108 ⌝ }
 {
-    let a = text::put_signed_number(out, 0, load);
-    let b = text::put_number(out, a, clock);
-    let c = text::put_signed_number(out, b, top);
-    let d = text::put_signed_number(out, c, bottom);
+    let load = of.load;
+    let clock = of.clock;
+    let top = of.top_outflow;
+    let bottom = of.bottom_outflow;
+    let a = text::put_signed_number(out, 0, load.0);
+    let b = text::put_number(out, a, clock.0);
+    let c = text::put_signed_number(out, b, top.0);
+    let d = text::put_signed_number(out, c, bottom.0);
     text::put_number(out, d, start)
 }
 
@@ -89,48 +96,31 @@ pub fn put_state(out: &mut [u8], of: Record) -> usize
     ensures { λ r. ⌜ Put (stateText of) (now (out .entry)) 0 (now (out .exit)) r ⌝ }
     ensures { λ r. ⌜ r ≤ 2_796 ⌝ }
 {
-    let load = of.load;
-    let clock = of.clock;
-    let water = of.water;
-    let next = put_amounts(
-        out,
-        load.0,
-        clock.0,
-        of.top_outflow,
-        of.bottom_outflow,
-        of.starting_water,
-    );
-    put_elements(out, next, &water)
+    let next = put_amounts(out, of.layer.progress, of.layer.frame.starting_water);
+    put_elements(out, next, &of.layer.water)
 }
 
 // Stores four counts and a gravity at the start of a buffer, and gives their length.
-fn put_counts(
-    out: &mut [u8],
-    elements: u64,
-    first: u64,
-    second: u64,
-    table: u64,
-    gravity: u64,
-) -> usize
+fn put_counts(out: &mut [u8], curves: CurveCounts, frame: Frame) -> usize
     requires { ⌜ 105 ≤ length (now out) ⌝ }
-    ensures { λ r. ⌜ Put (countsText elements first second table gravity) (now (out .entry)) 0 (now (out .exit)) r ⌝ }
+    ensures { λ r. ⌜ Put (countsText curves frame) (now (out .entry)) 0 (now (out .exit)) r ⌝ }
     ensures { λ r. ⌜ r ≤ 105 ⌝ }
 {
-    let a = text::put_number(out, 0, elements);
-    let b = text::put_number(out, a, first);
-    let c = text::put_number(out, b, second);
-    let d = text::put_number(out, c, table);
-    text::put_number(out, d, gravity)
+    let a = text::put_number(out, 0, frame.elements as u64);
+    let b = text::put_number(out, a, curves.compressibility as u64);
+    let c = text::put_number(out, b, curves.conductivity as u64);
+    let d = text::put_number(out, c, frame.table_points as u64);
+    text::put_number(out, d, frame.gravity)
 }
 
 // Stores two levels, and gives the place after them.
-fn put_levels(out: &mut [u8], at: usize, top: i64, bottom: i64) -> usize
+fn put_levels(out: &mut [u8], at: usize, top: Head, bottom: Head) -> usize
     requires { ⌜ at + 44 ≤ length (now out) ⌝ }
     ensures { λ r. ⌜ Put (levelsText top bottom) (now (out .entry)) at (now (out .exit)) r ⌝ }
     ensures { λ r. ⌜ r ≤ at + 44 ⌝ }
 {
-    let next = text::put_signed_number(out, at, top);
-    text::put_signed_number(out, next, bottom)
+    let next = text::put_signed_number(out, at, top.0);
+    text::put_signed_number(out, next, bottom.0)
 }
 
 // Stores a record's counts, gravity, faces and levels at the start of a buffer, and gives their length.
@@ -139,19 +129,11 @@ pub fn put_site(out: &mut [u8], of: Record) -> usize
     ensures { λ r. ⌜ Put (siteText of) (now (out .entry)) 0 (now (out .exit)) r ⌝ }
     ensures { λ r. ⌜ r ≤ 235 ⌝ }
 {
-    let top = of.top;
-    let bottom = of.bottom;
-    let top_level = of.top_level;
-    let bottom_level = of.bottom_level;
-    let a = put_counts(
-        out,
-        of.elements as u64,
-        of.compressibility_points as u64,
-        of.conductivity_points as u64,
-        of.table_points as u64,
-        of.gravity,
-    );
+    let frame = of.layer.frame;
+    let top = frame.top;
+    let bottom = frame.bottom;
+    let a = put_counts(out, of.soil.counts, frame);
     let b = put_face(out, a, top);
     let c = put_face(out, b, bottom);
-    put_levels(out, c, top_level.0, bottom_level.0)
+    put_levels(out, c, frame.top_level, frame.bottom_level)
 }

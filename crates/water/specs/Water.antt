@@ -8,10 +8,15 @@ use mathlib.Core.List.{List, _∷_}
 use Rattle.numbers.specs.Interval.{Within}
 use Rattle.element.specs.Elements.{mostFlow}
 use Rattle.rules.specs.Quantities.{waterLimits}
+use Rattle.rules.specs.Step.{newHeight}
 
 -- the new water of element j: less what leaves by its upper face, and what enters by its lower, the lowest being the bottom
 abbrev pub newWater : (lowest : ℤ) (above : List ℤ) (water : List ℕ) → ℕ → ℤ
 newWater lowest above water j = pos (getD water j 0) -ℤ getD above j (pos 0) +ℤ getD (lowest ∷ above) j (pos 0)
+
+-- its height after the step
+abbrev pub heightAfter : (lowest : ℤ) (above : List ℤ) (water : List ℕ) → ℕ → ℕ
+heightAfter lowest above water j = newHeight (getD water j 0) (newWater lowest above water j)
 
 -- a height lies between two bounds
 abbrev pub between : (low high : ℕ) → ℤ → Bool

@@ -1,11 +1,11 @@
 // The new water of a step, and the bounds in which an element is on the curve.
-ghost use lib.IntN.{ℤ, pos, natAbs, _+ℤ_, _-ℤ_};
+ghost use lib.IntN.{ℤ, pos, _+ℤ_, _-ℤ_};
 ghost use lib.ListN.{length, getD};
 ghost use lib.Signed.{_≤ℤ_};
 ghost use mathlib.Core.Path.{_≡_};
 ghost use Prim.Native.Nat.{ℕ, _+_, _≤_, _<_};
 ghost use Rattle.element.specs.Elements.{mostFlow};
-ghost use Rattle.water.specs.Water.{newWater, between, staysAt, Movable};
+ghost use Rattle.water.specs.Water.{newWater, heightAfter, between, staysAt, Movable};
 ghost use Rattle.numbers.specs.Arrays.{filled, everyIndex};
 ghost use Rattle.numbers.specs.Interval.{Within};
 ghost use Rattle.laws.specs.Bounds.{lowestWater, highestWater};
@@ -102,7 +102,7 @@ pub fn move_water<'a>(n: usize, lowest: i64, above: &'a [i64; 128], water: &mut 
     requires { ⌜ Movable n lowest (now above) (now water) ⌝ }
     requires { ⌜ ((j : ℕ) → j < n → pos 0 ≤ℤ newWater lowest (now above) (now water) j) ⌝ }
     requires { ⌜ length (now water) ≡ 128 ⌝ }
-    ensures { λ _. ⌜ now (water .exit) ≡ filled (now (water .entry)) n (λ j. natAbs (newWater lowest (now (above .entry)) (now (water .entry)) j)) ⌝ }
+    ensures { λ _. ⌜ now (water .exit) ≡ filled (now (water .entry)) n (heightAfter lowest (now (above .entry)) (now (water .entry))) ⌝ }
 {
     let mut enters = lowest;
     let mut j: usize = 0;

@@ -1,7 +1,8 @@
 use native.Mathlib.Omega.{arith}
 use lib.ListN.{length}
 use mathlib.Core.Path.{_≡_, sym, ap, _∙_}
-use Rattle.consolidate.proofs.Program.{number-few, whole, elements-few, room-is, result-written, refusal-written}
+use Rattle.consolidate.proofs.Program.{whole, elements-few, room-is, result-written, refusal-written}
+use Rattle.key.specs.KeyLaws.{key-numbers}
 use Rattle.rules.specs.Job.{described}
 use Rattle.rules.specs.Key.{key}
 use Rattle.rules.specs.Result.{resultSize}
@@ -25,7 +26,7 @@ refused-line-requires c κs =
     let k = c .before .before .before .before in
     let s = k .before .before .before .before in
     let room = room-of k in
-    (rw (k .consolidation-key .ensures .0) (omega (arith, number-few (s .args .out .now) (s .args .job .now))), omega (arith, room, kept (c .before .before .before)))
+    (rw (k .consolidation-key .ensures .0) (omega (arith, key-numbers (s .args .job .now) (s .args .out .now))), omega (arith, room, kept (c .before .before .before)))
 
 same-length : tie.Need-same-length
 same-length c = search needs

@@ -10,35 +10,38 @@ use Rattle.element.proofs.excess_pressure.Statement.{statement}
 use Rattle.element.proofs.excess_pressure.Tie as tie
 
 module _ (c : tie.Start) where
+  load-fits : SFits w64 (c .args .load .0)
+  load-fits = within-fits tt (c .pre .0)
+
   burden-is : toZ w64 (c .args .burden) ≡ pos (c .args .burden)
   burden-is = readUnsigned (c .args .burden) (omega arith)
 
   stress-is : toZ w64 (c .args .stress) ≡ pos (c .args .stress)
   stress-is = readUnsigned (c .args .stress) (omega arith)
 
-  total : Within (c .args .load +ℤ pos (c .args .burden)) 2_510_000_000
+  total : Within (c .args .load .0 +ℤ pos (c .args .burden)) 2_510_000_000
   total = within-add (c .pre .0) (within-le {n = 510_000_000} (within-pos (c .args .burden)) (omega arith))
 
-  total-fits : SFits w64 (c .args .load +ℤ pos (c .args .burden))
+  total-fits : SFits w64 (c .args .load .0 +ℤ pos (c .args .burden))
   total-fits = within-fits tt total
 
-  excess-fits : SFits w64 (c .args .load +ℤ pos (c .args .burden) -ℤ pos (c .args .stress))
+  excess-fits : SFits w64 (c .args .load .0 +ℤ pos (c .args .burden) -ℤ pos (c .args .stress))
   excess-fits = within-fits {n = 4_510_000_000} tt (within-sub total (within-le {n = 2_000_000_000} (within-pos (c .args .stress)) (omega arith)))
 
-cast-result : tie.Need-cast-result
-cast-result c = search needs
+cast-excess : tie.Need-cast-excess
+cast-excess c = search needs
 
-add-result : tie.Need-add-result
-add-result c = simp (readBack (c .fits .load), burden-is c) (total-fits c)
+add-excess : tie.Need-add-excess
+add-excess c = let s = c .before .before in simp (readBack (load-fits s), burden-is s) (total-fits s)
 
-cast-result-2 : tie.Need-cast-result-2
-cast-result-2 c = search needs
+cast-excess-2 : tie.Need-cast-excess-2
+cast-excess-2 c = search needs
 
-sub-result : tie.Need-sub-result
-sub-result c = simp (readBack (c .fits .load), burden-is c, stress-is c, readBack (total-fits c)) (excess-fits c)
+sub-excess : tie.Need-sub-excess
+sub-excess c = let s = c .before .before in simp (readBack (load-fits s), burden-is s, stress-is s, readBack (total-fits s)) (excess-fits s)
 
 returns : tie.Need-returns
-returns c = simp (readBack (c .fits .load), burden-is c, stress-is c, readBack (total-fits c), readBack (excess-fits c))
+returns c = let s = c .before .before in simp (readBack (load-fits s), burden-is s, stress-is s, readBack (total-fits s), readBack (excess-fits s))
 
 pub excess-pressure-spec : {M : Type 1} → statement M
-excess-pressure-spec = tie.close (tie.spec cast-result add-result cast-result-2 sub-result returns)
+excess-pressure-spec = tie.close (tie.spec cast-excess add-excess cast-excess-2 sub-excess returns)

@@ -1,115 +1,156 @@
-use Prim.Native.Nat.{ℕ}
-use lib.IntN.{pos}
+use Prim.Native.Nat.{ℕ, _≤_}
+use native.Mathlib.Omega.{arith}
+use borrow.Author.Needs.{needs}
+use lib.ListN.{length}
+use mathlib.Core.Bool.{true}
 use mathlib.Core.List.{List}
-use mathlib.Core.Path.{_≡_, refl, sym, ap, _∙_}
-use mir.Syntax.{w64}
-use mir.Val.{toZ, ofZ}
-use Rattle.key.specs.KeyLaws.{key-refused, can-run, key-run}
-use Rattle.numbers.specs.Arrays.{zeros}
-use Rattle.numbers.specs.Signed.{readBack}
-use Rattle.opening.specs.Accepted.{blank-arrays, header-whole, numbers-kept, water-long, record-left}
-use Rattle.opening.specs.Lent.{Leaves, answerOf}
+use mathlib.Core.Path.{_≡_, refl, sym, ap, subst, _∙_}
+use Rattle.claims.specs.Opened.{opened}
+use Rattle.job.specs.Pairs.{Blank, Pairs}
+use Rattle.key.specs.KeyLaws.{key-refused, opened-layer, opened-clock, opened-long, end-and-budget, key-run}
+use Rattle.lent.specs.Burdens.{burdensIn}
+use Rattle.numbers.specs.Arrays.{zeros, filled}
+use Rattle.opening.specs.Opened.{openedJob, leftDescription, leftBurden}
+use Rattle.opening.specs.OpenedLaws.{opened-refused, opened-done, opened-header, opened-record, opened-burden}
+use Rattle.opening.specs.declared.Opened.{Opened}
 use Rattle.result.specs.ResultLaws.{number-is, buffer-is}
-use Rattle.rules.specs.Job.{described}
-use Rattle.rules.specs.Opening.{opening}
-use Rattle.rules.specs.Quantities.{head, pressure}
-use Rattle.rules.specs.Record.{recordOf}
+use Rattle.rules.specs.Job.{described, countsOf, frameOf}
+use Rattle.rules.specs.Key.{runToResult, key}
+use Rattle.rules.specs.Opening.{openedRecord, opening}
+use Rattle.rules.specs.Quantities.{clockLimits, budgetLimits}
+use Rattle.rules.specs.Record.{soilOf, layerOf, recordOf, isLayer}
+use Rattle.numbers.specs.Sums.{sum}
+use Rattle.rules.specs.Result.{Returned, withheld}
 use Rattle.rules.specs.declared.answers.Answer.the-variants.{Done}
 use Rattle.rules.specs.declared.job.Header.{Header}
+use Rattle.rules.specs.declared.record.Frame.{Frame}
+use Rattle.rules.specs.declared.record.Progress.{Progress}
 use Rattle.rules.specs.declared.record.Record.{Record}
-use borrow.Author.Needs.{needs}
 use Rattle.key.proofs.consolidation_key.Statement.{statement}
 use Rattle.key.proofs.consolidation_key.Tie as tie
 
 open-into-requires : tie.Need-open-into-requires
 unfolding zeros
-open-into-requires c κs = blank-arrays
+open-into-requires c κs = (
+  record {
+    solids-blank = refl;
+    water-blank = refl;
+    compressibility-void-blank = refl;
+    compressibility-stress-blank = refl;
+    conductivity-void-blank = refl;
+    conductivity-blank = refl;
+    table-time-blank = refl;
+    table-load-blank = refl;
+  },
+  refl,
+)
 
-enum-known-checked : tie.Need-enum-known-checked
-enum-known-checked c = search needs
+enum-known-opened : tie.Need-enum-known-opened
+enum-known-opened c = search needs
 
 withheld-requires : tie.Need-withheld-requires
 withheld-requires c κs = search needs
 
 returns : tie.Need-returns
-unfolding answerOf
+unfolding withheld
 returns c =
     let k = c .before .before in
     let o = k .before .before in
-    let s = o .before .before .before .before .before .before .before .before .before .before .before in
-    let (number, buffer) = key-refused (s .args .job .now) (s .args .result .now) _ (o .open-into .ensures .0 ∙ ap answerOf (k .checked .given .1)) in
-    (c .withheld .ensures ∙ number, buffer)
+    let s = o .before .before .before .before .before .before .before .before .before .before .before .before in
+    let job = s .args .job .now in
+    let e = key-refused job (s .args .result .now) (k .opened .given .0 .0) (opened-refused job (k .opened .given .0 .0) (sym (o .open-into .ensures .0) ∙ k .opened .given .1)) in
+    (c .withheld .ensures ∙ number-is e, buffer-is e)
 
-enum-told : tie.Need-enum-told
-enum-told c = search needs
+enum-known-opened-2 : tie.Need-enum-known-opened-2
+enum-known-opened-2 c = search needs
 
--- ---- a job that is not refused
+-- ---- a job that opening accepts
 
-module _ (c : tie.After-enum-told) where
+module _ (c : tie.After-known-told2) where
   abbrev o : tie.After-open-into
-  o = c .before .before
+  o = c .before .before .before
 
   abbrev s : tie.Start
-  s = o .before .before .before .before .before .before .before .before .before .before .before
+  s = o .before .before .before .before .before .before .before .before .before .before .before .before
 
   abbrev job : List ℕ
   job = s .args .job .now
 
+  abbrev header : Header
+  header = c .before .opened2 .given .0 .0
+
+  abbrev frame : Frame
+  frame = c .before .opened2 .given .0 .1 .0
+
+  abbrev progress : Progress
+  progress = c .before .opened2 .given .0 .1 .1 .0
+
+  accepted : openedJob job ≡ Opened.Accepted header frame progress
+  accepted = sym (o .open-into .ensures .0) ∙ c .before .opened2 .given .1
+
   done : (opening job) .answer ≡ Done
-  unfolding answerOf
-  done = o .open-into .ensures .0 ∙ ap answerOf (c .enum-told .given .1)
+  done = opened-done job accepted
 
-  leaves : Leaves job (o .open-into .last .1 .0) (o .open-into .last .1 .1 .0) (o .open-into .last .1 .1 .1 .0) (o .open-into .last .1 .1 .1 .1 .0) (o .open-into .last .1 .1 .1 .1 .1 .0) (o .open-into .last .1 .1 .1 .1 .1 .1 .0) (o .open-into .last .1 .1 .1 .1 .1 .1 .1 .0) (o .open-into .last .1 .1 .1 .1 .1 .1 .1 .1 .0)
-  leaves = o .open-into .ensures .1 (c .enum-told .given .1)
+  -- its arrays
+  abbrev void : List ℕ
+  void = o .open-into .last .1 .0
 
-read-header-requires : tie.Need-read-header-requires
-read-header-requires c κs = header-whole (job c) (done c)
+  abbrev stress : List ℕ
+  stress = o .open-into .last .1 .1 .0
 
-opened-numbers-requires : tie.Need-opened-numbers-requires
-opened-numbers-requires c κs =
-    let h = c .before .before in
-    let t = h .before in
-    numbers-kept _ _ _ _ _ _ _ _ _ (done t) (leaves t) (h .read-header .result) (h .read-header .ensures)
+  abbrev conductivity-void : List ℕ
+  conductivity-void = o .open-into .last .1 .1 .1 .0
 
--- the record of the job is lent by its fields
-module _ (c : tie.After-struct-told3) where
-  abbrev n : tie.After-opened-numbers
-  n = c .before .before .before .before .before .before .before .before .before .before .before
+  abbrev conductivity : List ℕ
+  conductivity = o .open-into .last .1 .1 .1 .1 .0
 
-  abbrev h : tie.After-read-header
-  h = n .before .before .before
+  abbrev solids : List ℕ
+  solids = o .open-into .last .1 .1 .1 .1 .1 .0
 
-  abbrev t : tie.After-enum-told
-  t = h .before
+  abbrev water : List ℕ
+  water = o .open-into .last .1 .1 .1 .1 .1 .1 .0
 
-  end-is : h .read-header .result .end ≡ (described (job t)) .header .end
-  end-is = ap (λ (x : Header). x .end) (h .read-header .ensures)
+  abbrev table-time : List ℕ
+  table-time = o .open-into .last .1 .1 .1 .1 .1 .1 .1 .0
 
-  budget-is : h .read-header .result .budget ≡ (described (job t)) .header .budget
-  budget-is = ap (λ (x : Header). x .budget) (h .read-header .ensures)
+  abbrev table-load : List ℕ
+  table-load = o .open-into .last .1 .1 .1 .1 .1 .1 .1 .1 .0
+
+  abbrev burden : List ℕ
+  burden = o .open-into .last .1 .1 .1 .1 .1 .1 .1 .1 .1 .0
+
+  held : Pairs (leftDescription job) solids water void stress conductivity-void conductivity table-time table-load
+  held = o .open-into .ensures .1 .0
 
   abbrev lent : Record
-  lent =
-      let x = h .read-header .result in
-      let v = n .opened-numbers .result in
-      recordOf (v .top) (v .bottom) (x .elements) (x .«compressibility_points») (x .«conductivity_points») (x .«table_points») (x .gravity)
-      (head (toZ w64 (ofZ w64 (v .«top_level»)))) (head (toZ w64 (ofZ w64 (v .«bottom_level»)))) (o t .open-into .last .1 .0) (o t .open-into .last .1 .1 .0) (o t .open-into .last .1 .1 .1 .0) (o t .open-into .last .1 .1 .1 .1 .0) (o t .open-into .last .1 .1 .1 .1 .1 .0) (o t .open-into .last .1 .1 .1 .1 .1 .1 .0) (o t .open-into .last .1 .1 .1 .1 .1 .1 .1 .0) (o t .open-into .last .1 .1 .1 .1 .1 .1 .1 .1 .0)
-      (pressure (toZ w64 (ofZ w64 (v .load)))) (record { 0 = 0 }) (pos 0) (pos 0) (v .«starting_water»)
+  lent = recordOf (soilOf (countsOf header) void stress conductivity-void conductivity) (layerOf frame progress solids water table-time table-load)
 
-  lent-is : lent ≡ (opening (job t)) .after
-  lent-is =
-      let numbers = n .opened-numbers .ensures in
-      let top-level = readBack {z = n .opened-numbers .result .«top_level»} (record { sfits = c .before .before .before .before .before .before .before .before .before .before .struct-told .given .1 .1 .0 .1 }) in
-      let bottom-level = readBack {z = n .opened-numbers .result .«bottom_level»} (record { sfits = c .before .before .before .before .before .before .before .before .before .struct-told2 .given .1 .1 .1 .0 .1 }) in
-      let load = readBack {z = n .opened-numbers .result .load} (record { sfits = c .struct-told3 .given .1 .1 .1 .1 .0 .1 }) in
-      record-left _ _ _ _ _ _ _ _ _ (done t) (leaves t) (h .read-header .result) (h .read-header .ensures) _ _ _ _ _ _ (numbers .0 .0) (numbers .0 .1)
-      (top-level ∙ numbers .1 .0 .0) (bottom-level ∙ numbers .1 .0 .1) (load ∙ numbers .1 .1 .0) (numbers .1 .1 .1)
+  lent-is : lent ≡ (opening job) .after
+  lent-is = sym (opened-record job accepted held)
+
+  -- the frame is the header's
+  frame-is : frame ≡ frameOf header (sum ((opened job done) .water))
+  unfolding openedRecord
+  frame-is =
+      ap (λ (r : Record). r .layer .frame) (lent-is ∙ opened job done .left) ∙
+      ap (λ (h : Header). frameOf h (sum ((opened job done) .water))) (sym (opened-header job accepted))
+
+  burden-is : burden ≡ burdensIn frame solids
+  unfolding frameOf zeros
+  burden-is = o .open-into .ensures .1 .1 ∙ opened-burden job accepted held _ ∙ ap (λ (f : Frame). burdensIn f solids) (sym frame-is)
+
+  can-run : (progress .clock .0 ≤ header .end) × (header .end ≤ clockLimits .most) × (header .budget ≤ budgetLimits .most)
+  can-run =
+      let at-0 : progress .clock .0 ≡ 0 = ap (λ (r : Record). r .layer .progress .clock .0) lent-is ∙ opened-clock job done in
+      let end-is = ap (λ (h : Header). h .end) (opened-header job accepted) in
+      let budget-is = ap (λ (h : Header). h .budget) (opened-header job accepted) in
+      let (end-most, budget-most) = end-and-budget job done in
+      (omega arith, omega arith, omega arith)
 
 run-to-result-requires : tie.Need-run-to-result-requires
 run-to-result-requires c κs =
-    let f = c .before in
-    let (is, limits) = can-run (job (t f)) (done (t f)) _ (lent-is f) _ _ (end-is f) (budget-is f) in
-    (is, (limits, water-long _ _ _ _ _ _ _ _ _ (done (t f)) (leaves (t f))))
+    let k = c .before .before .before .before .before .before .before .before .before .before in
+    (subst (λ (r : Record). isLayer r ≡ true) (sym (lent-is k)) (opened-layer (job k) (done k)), (can-run k, (ap (λ (r : Record). length (r .layer .water)) (lent-is k) ∙ opened-long (job k) (done k), burden-is k)))
 
 same-length : tie.Need-same-length
 same-length c = search needs
@@ -117,21 +158,23 @@ same-length c = search needs
 returns-2 : tie.Need-returns-2
 returns-2 c =
     let r = c .before .before in
-    let f = r .before .before in
-    let e = key-run (job (t f)) (done (t f)) _ (lent-is f) _ _ (end-is f) (budget-is f) (s (t f) .args .result .now) in
-    (r .run-to-result .ensures .0 ∙ number-is e, r .run-to-result .ensures .1 ∙ buffer-is e)
+    let k = r .before .before .before .before .before .before .before .before .before .before .before in
+    let result = s k .args .result .now in
+    let run : Record → Header → Returned = λ x h. runToResult x (h .end) (h .budget) result in
+    let e : key (job k) result ≡ run (lent k) (header k) =
+    key-run (job k) (done k) result ∙ ap (λ (h : Header). run ((opening (job k)) .after) h) (sym (opened-header (job k) (accepted k))) ∙
+    ap (λ (x : Record). run x (header k)) (sym (lent-is k)) in
+    (r .run-to-result .ensures .0 ∙ number-is e, r .run-to-result .ensures .1 .0 ∙ buffer-is e)
 
 pub consolidation-key-spec : {M : Type 1} → statement M
 consolidation-key-spec =
     tie.close
     (tie.spec
     open-into-requires
-    enum-known-checked
+    enum-known-opened
     withheld-requires
-    returns
-    enum-told
-    read-header-requires
-    opened-numbers-requires
+    enum-known-opened-2
     run-to-result-requires
+    returns
     same-length
     returns-2)

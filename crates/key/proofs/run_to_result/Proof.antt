@@ -1,32 +1,33 @@
 use Prim.Native.Nat.{ℕ, _≤_}
+use borrow.Author.Needs.{needs}
 use lib.ListN.{length}
 use mathlib.Core.Bool.{true}
 use mathlib.Core.List.{List}
 use mathlib.Core.Path.{_≡_, refl, sym, ap, subst, _∙_}
-use mir.Syntax.{w64}
-use mir.Val.{SFits}
-use Rattle.calls.specs.Standing.{counted}
-use Rattle.key.specs.KeyLaws.{no-room, ran-layer, ran-fields, ran-written}
+use Rattle.key.specs.KeyLaws.{no-room, room-enough}
+use Rattle.key.specs.Layers.{ended-layer}
+use Rattle.lent.specs.Standing.{counted}
 use Rattle.numbers.specs.Arrays.{overlaid}
-use Rattle.numbers.specs.Signed.{readBack}
-use Rattle.result.specs.Fields.{layerWith, othersOf}
 use Rattle.result.specs.ResultLaws.{number-is, buffer-is}
-use Rattle.rules.specs.Calls.{called}
-use Rattle.rules.specs.Record.{recordOf, withState, isLayer}
+use Rattle.rules.specs.Calls.{Ending, endedRun}
+use Rattle.rules.specs.Job.{countsOf}
+use Rattle.rules.specs.Record.{soilOf, layerOf, recordOf, withParts, isLayer}
 use Rattle.rules.specs.Result.{withheld, resultBytes, resultSize}
-use Rattle.rules.specs.declared.answers.Answer.the-variants.{Ran}
-use Rattle.rules.specs.declared.answers.Answered.{Answered}
-use Rattle.rules.specs.declared.answers.Call.the-variants.{Run}
+use Rattle.rules.specs.declared.answers.Ended.{Ended}
+use Rattle.rules.specs.declared.record.CurveCounts.{CurveCounts}
 use Rattle.rules.specs.declared.record.Record.{Record}
-use Rattle.run.specs.Loop.{stateIn}
-use Rattle.run.specs.declared.Ended.{Ended}
-use borrow.Author.Needs.{needs}
 use Rattle.key.proofs.run_to_result.Statement.{statement}
 use Rattle.key.proofs.run_to_result.Tie as tie
 
 -- the layer that is lent
+abbrev lentWith : tie.Start → CurveCounts → Record
+lentWith s counts =
+    let a = s .args in
+    recordOf (soilOf counts (a .void .now) (a .stress .now) (a .conductivity-void .now) (a .conductivity .now))
+    (layerOf (a .frame) (a .progress) (a .solids .now) (a .water .now) (a .table-time .now) (a .table-load .now))
+
 abbrev layer : tie.Start → Record
-layer s = recordOf (s .args .top) (s .args .bottom) (s .args .elements) (s .args .compressibility-points) (s .args .conductivity-points) (s .args .table-points) (s .args .gravity) (s .args .top-level) (s .args .bottom-level) (s .args .solids .now) (s .args .water .now) (s .args .compressibility-stress .now) (s .args .compressibility-void .now) (s .args .conductivity-void .now) (s .args .conductivity .now) (s .args .table-time .now) (s .args .table-load .now) (s .args .load) (s .args .clock) (s .args .top-outflow) (s .args .bottom-outflow) (s .args .starting-water)
+layer s = lentWith s (countsOf (s .args .header))
 
 result-size-requires : tie.Need-result-size-requires
 result-size-requires c κs = counted (layer (c .before)) (c .before .pre .0) .1
@@ -39,70 +40,68 @@ unfolding withheld
 returns c =
     let s = c .before .before .before .before in
     let short = rw (c .before .before .result-size .ensures) at (c .before .if1 .taken) in
-    let e = no-room (layer s) (s .args .end) (s .args .budget) (s .args .out .now) (s .pre .0) short in
-    (c .withheld .ensures ∙ number-is e, buffer-is e)
+    let (e, w) = no-room (layer s) (s .args .header .end) (s .args .header .budget) (s .args .out .now) short in
+    (c .withheld .ensures ∙ number-is e, (buffer-is e, sym w))
 
-run-fields-requires : tie.Need-run-fields-requires
-run-fields-requires c κs =
-    let s = c .before .before .before .before in
-    simp (readBack (s .fits .top-outflow), readBack (s .fits .bottom-outflow)) (s .pre)
+curve-counts-requires : tie.Need-curve-counts-requires
+curve-counts-requires c κs = search needs
+
+-- the same layer by the counts that were read
+counts-as : (s : tie.Start) {counts : CurveCounts} → counts ≡ countsOf (s .args .header) → isLayer (layer s) ≡ true → isLayer (lentWith s counts) ≡ true
+counts-as s e h = rw e h
+
+run-lent-requires : tie.Need-run-lent-requires
+run-lent-requires c κs =
+    let n = c .before in
+    let s = n .before .before .before .before in
+    (counts-as s (n .curve-counts .ensures) (s .pre .0), (s .pre .1 .0, s .pre .1 .1))
 
 -- ---- the layer after the run
 
-module _ (f : tie.After-run-fields) where
+module _ (f : tie.After-run-lent) where
+  abbrev n : tie.After-curve-counts
+  n = f .before .before
+
   abbrev s : tie.Start
-  s = f .before .before .before .before .before
+  s = n .before .before .before .before
 
   abbrev out : List ℕ
   out = s .args .out .now
 
-  abbrev ran : Ended
-  ran = f .run-fields .result
+  abbrev end : ℕ
+  end = s .args .header .end
+
+  abbrev budget : ℕ
+  budget = s .args .header .budget
+
+  abbrev ended : Ended
+  ended = f .run-lent .result
 
   abbrev water : List ℕ
-  water = f .run-fields .last .1 .1 .1 .1 .1 .1 .1 .1 .1 .1 .0
-
-  abbrev after : Record
-  after = withState (layer s) (stateIn (s .args .elements) water (ran .load) (ran .clock) (ran .«top_outflow») (ran .«bottom_outflow»))
+  water = f .run-lent .last .1 .1 .1 .1 .1 .1 .1 .1 .0
 
   -- there is room for its result
-  room : resultSize (s .args .elements) ≤ length out
-  room = rw (f .before .before .before .result-size .ensures) at (f .before .before .if1 .left)
+  room : resultSize (s .args .frame .elements) ≤ length out
+  room = subst (λ (k : ℕ). k ≤ length out) (n .before .before .result-size .ensures) (n .before .if1 .left)
 
-  gives : called (layer s) (Run (s .args .end) (s .args .budget)) ≡ record { answer = Ran (ran .stop) (ran .steps); after = after }
-  gives = simp (readBack (s .fits .top-outflow), readBack (s .fits .bottom-outflow)) at (f .run-fields .ensures .0)
+  abbrev left : Record → Ending
+  left r = record { stop = ended .stop; steps = ended .steps; after = withParts r water (ended .progress) }
 
-  -- by its fields
-  abbrev shown : Record
-  shown = layerWith (s .args .elements) (s .args .compressibility-points) (s .args .gravity) (s .args .top-level) (s .args .solids .now) water
-      (s .args .compressibility-stress .now) (s .args .compressibility-void .now) (ran .load) (ran .clock) (ran .«top_outflow»)
-      (ran .«bottom_outflow») (s .args .starting-water) (othersOf (layer s))
+  gives : endedRun (layer s) end budget ≡ left (layer s)
+  gives = subst (λ (k : CurveCounts). endedRun (lentWith s k) end budget ≡ left (lentWith s k)) (n .curve-counts .ensures) (f .run-lent .ensures)
 
-  shown-is : shown ≡ after
-  shown-is = ran-fields (layer s) water (ran .load) (ran .clock) (ran .«top_outflow») (ran .«bottom_outflow») (f .run-fields .ensures .1)
+  after-layer : isLayer (withParts (layer s) water (ended .progress)) ≡ true
+  after-layer = subst (λ (x : Ending). isLayer (x .after) ≡ true) gives (ended-layer (layer s) end budget (s .pre .0) (s .pre .1 .0 .0) (s .pre .1 .0 .1))
 
-  shown-layer : isLayer shown ≡ true
-  shown-layer =
-      subst (λ (r : Record). isLayer r ≡ true) (sym shown-is)
-      (ran-layer (layer s) (s .args .end) (s .args .budget) out (s .pre .0) room (record { answer = Ran (ran .stop) (ran .steps); after = after }) (sym gives))
+-- the record after the run, by the counts that were read
+after-as : (f : tie.After-run-lent) {counts : CurveCounts} → counts ≡ countsOf (s f .args .header) →
+    withParts (lentWith (s f) counts) (water f) (ended f .progress) ≡ withParts (layer (s f)) (water f) (ended f .progress)
+after-as f e = ap (λ (k : CurveCounts). withParts (lentWith (s f) k) (water f) (ended f .progress)) e
 
--- its numbers fit
-module _ (c : tie.After-struct-told3) where
-  abbrev f : tie.After-run-fields
-  f = c .before .before .before .before .before
-
-  load-fits : SFits w64 (ran f .load)
-  load-fits = record { sfits = c .before .before .struct-told .given .1 .1 .0 .1 }
-
-  top-fits : SFits w64 (ran f .«top_outflow»)
-  top-fits = record { sfits = c .before .struct-told2 .given .1 .1 .1 .1 .0 .1 }
-
-  bottom-fits : SFits w64 (ran f .«bottom_outflow»)
-  bottom-fits = record { sfits = c .struct-told3 .given .1 .1 .1 .1 .1 .0 .1 }
-
-write-fields-requires : tie.Need-write-fields-requires
-write-fields-requires c κs =
-    simp (readBack (load-fits c), readBack (top-fits c), readBack (bottom-fits c)) (record { others = othersOf (layer (s (f c))); is-layer = shown-layer (f c) }, room (f c))
+write-lent-requires : tie.Need-write-lent-requires
+write-lent-requires c κs =
+    let f = c .before .before in
+    (subst (λ (r : Record). isLayer r ≡ true) (sym (after-as f (n f .curve-counts .ensures))) (after-layer f), (s f .pre .1 .1 .1, room f))
 
 same-length : tie.Need-same-length
 same-length c = search needs
@@ -110,14 +109,15 @@ same-length c = search needs
 returns-2 : tie.Need-returns-2
 returns-2 c =
     let w = c .before .before in
-    let t = w .before in
-    let g = f t in
-    let r = s g in
-    let e = ran-written (layer r) (r .args .end) (r .args .budget) (out g) (r .pre .0) (room g) (record { answer = Ran (ran g .stop) (ran g .steps); after = after g })
-    (sym (gives g)) (ran g .stop) (ran g .steps) refl in (
+    let f = w .before .before .before in
+    let (e, left-water) = room-enough (layer (s f)) (end f) (budget f) (out f) (room f) in
+    let bytes = ap (λ (x : Ending). overlaid (resultBytes (x .after) (x .stop) (x .steps)) (out f)) (gives f) in (
       number-is e,
-      (simp (readBack (load-fits t), readBack (top-fits t), readBack (bottom-fits t)) at (w .write-fields .ensures)) (othersOf (layer r)) ∙
-          ap (λ (x : Record). overlaid (resultBytes x (ran g .stop) (ran g .steps)) (out g)) (shown-is g) ∙ buffer-is e,
+      (
+        w .write-lent .ensures ∙
+            ap (λ (r : Record). overlaid (resultBytes r (ended f .stop) (ended f .steps)) (out f)) (after-as f (n f .curve-counts .ensures)) ∙ sym bytes ∙ buffer-is e,
+        sym (left-water ∙ ap (λ (x : Ending). x .after .layer .water) (gives f)),
+      ),
     )
 
 pub run-to-result-spec : {M : Type 1} → statement M
@@ -127,7 +127,8 @@ run-to-result-spec =
     result-size-requires
     withheld-requires
     returns
-    run-fields-requires
-    write-fields-requires
+    curve-counts-requires
+    run-lent-requires
+    write-lent-requires
     same-length
     returns-2)

@@ -1,5 +1,5 @@
 use borrow.Author.Tests.{not-true, not-false}
-use lib.IntN.{ℤ, pos, natAbs}
+use lib.IntN.{ℤ, pos}
 use lib.ListN.{getD}
 use native.Mathlib.Omega.{arith}
 use Prim.Native.Nat.{ℕ, _-_}
@@ -9,13 +9,13 @@ use mir.Syntax.{w64}
 use mir.Val.{ofZ, toZ}
 use Rattle.motion.proofs.MovingAt.{lowest, above, stays-is, movable, movable-as, stays-as, filled-as, gives-leaves, gives-flows, keeps, moves-on, stays-positive, first-flow, last-flow, water-is}
 use Rattle.numbers.specs.Signed.{readBack}
-use Rattle.motion.specs.Moving.{flowsIn, staysOn, Bounded}
+use Rattle.motion.specs.Moving.{flowsIn, newHeights, staysOn, Bounded}
 use Rattle.numbers.specs.Arrays.{firstPlaces, overlaid, filled, everyIndex}
 use Rattle.numbers.specs.Interval.{within-fits}
 use Rattle.numbers.specs.Lists.{firstOr, lastOr}
 use Rattle.rules.specs.Curve.{Point}
 use Rattle.rules.specs.Step.{moved}
-use Rattle.water.specs.Water.{newWater, staysAt, Movable}
+use Rattle.water.specs.Water.{newWater, heightAfter, staysAt, Movable}
 use borrow.Author.Needs.{needs}
 use Rattle.motion.proofs.advance.Statement.{statement}
 use Rattle.motion.proofs.advance.Tie as tie
@@ -62,8 +62,8 @@ module _ (c : tie.After-all-flows) where
       ap (λ (l : List ℤ). getD l (s .args .n - 1) (pos 0)) above-is ∙
       sym (last-flow (s .args .n) (s .pre .0 .0) (s .args .top) (s .args .bottom) (s .args .t) (s .args .excess .now) (s .args .resistance .now) (s .args .above .now))
 
-  water-now : filled (s .args .water .now) (s .args .n) (λ j. natAbs (newWater (toZ w64 (ofZ w64 (c .all-flows .result))) now-above (s .args .water .now) j)) ≡
-      overlaid (map natAbs (moved (flowsIn (s .args .top) (s .args .bottom) (s .args .t) (s .args .n) (s .args .excess .now) (s .args .resistance .now)) (firstPlaces (s .args .n) (s .args .water .now)))) (s .args .water .now)
+  water-now : filled (s .args .water .now) (s .args .n) (heightAfter (toZ w64 (ofZ w64 (c .all-flows .result))) now-above (s .args .water .now)) ≡
+      overlaid (newHeights (flowsIn (s .args .top) (s .args .bottom) (s .args .t) (s .args .n) (s .args .excess .now) (s .args .resistance .now)) (s .args .n) (s .args .water .now)) (s .args .water .now)
   water-now =
       filled-as (s .args .n) (s .args .water .now) bottom-is above-is ∙
       water-is (s .args .n) (s .pre .0 .0) (s .args .top) (s .args .bottom) (s .args .t) (s .args .excess .now) (s .args .resistance .now) (s .args .above .now) (s .args .water .now)

@@ -10,9 +10,6 @@ use borrow.Author.Needs.{needs}
 use Rattle.motion.proofs.prepare.Statement.{statement}
 use Rattle.motion.proofs.prepare.Tie as tie
 
-burdens-requires : tie.Need-burdens-requires
-burdens-requires c κs = let s = c .before in (s .pre .0, (s .pre .1 .0, ((λ j h. s .pre .1 .1 .0 j h .1), s .pre .1 .1 .1 .1 .0)))
-
 sensitivities-requires : tie.Need-sensitivities-requires
 sensitivities-requires c κs = search needs
 
@@ -30,18 +27,18 @@ element-copy-out-water-bounds-2 c = search needs
 
 water-bounds-requires : tie.Need-water-bounds-requires
 water-bounds-requires c κs =
-    let s = c .before .before .before .before .before .before .before .before in
-    let k = compressible _ _ _ (s .pre .1 .1 .1 .0 .2) in
-    (s .pre .0, (s .pre .1 .1 .0, ((k .void-high _ (omega (arith, s .pre .1 .1 .1 .0 .0)), k .void-high _ (omega (arith, s .pre .1 .1 .1 .0 .0))), (s .pre .1 .1 .1 .1 .2, s .pre .1 .1 .1 .1 .3))))
+    let s = c .before .before .before .before .before .before in
+    let k = compressible _ _ _ (s .pre .1 .1 .0 .2) in
+    (s .pre .0, (s .pre .1 .0, ((k .void-high _ (omega (arith, s .pre .1 .1 .0 .0)), k .void-high _ (omega (arith, s .pre .1 .1 .0 .0))), (s .pre .1 .1 .1 .1, s .pre .1 .1 .1 .2))))
 
 steepness-requires : tie.Need-steepness-requires
 steepness-requires c κs = search needs
 
 returns : tie.Need-returns
 returns c =
-    let s = c .before .before .before .before .before .before .before .before .before .before in
-    let (greatest-is, least-is) = ends (s .args .m) (s .args .void .now) (s .args .stress .now) (omega (arith, s .pre .1 .1 .1 .0 .0)) in (
-      (c .steepness .ensures, c .before .before .before .before .before .before .before .before .burdens .ensures),
+    let s = c .before .before .before .before .before .before .before .before in
+    let (greatest-is, least-is) = ends (s .args .m) (s .args .void .now) (s .args .stress .now) (omega (arith, s .pre .1 .1 .0 .0)) in (
+      c .steepness .ensures,
       (
         c .before .before .before .before .before .before .sensitivities .ensures,
         (
@@ -57,7 +54,6 @@ pub prepare-spec : {M : Type 1} → statement M
 prepare-spec =
     tie.close
     (tie.spec
-    burdens-requires
     sensitivities-requires
     sub-last
     mul-water-bounds

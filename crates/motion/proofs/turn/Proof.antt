@@ -29,7 +29,8 @@ use Rattle.motion.proofs.turn.Tie as tie
 read-elements-requires : tie.Need-read-elements-requires
 read-elements-requires c κs =
     let s = c .before .before .before .before .before in
-    simp (readBack (s .fits .load)) (s .pre .0 .1, (s .pre .1 .1 .0, (s .pre .1 .1 .1 .0, (s .pre .1 .1 .1 .1 .1 .0 .0, s .pre .1 .1 .1 .1 .1 .0 .1))))
+    let long = s .pre .1 .1 .1 .1 .1 .0 in
+    (s .pre .0 .1, (s .pre .1 .1 .0, (s .pre .1 .1 .1 .0, (long .0, long .1, long .4, long .5))))
 
 -- what was read
 module _ (c : tie.After-read-elements) where
@@ -45,33 +46,33 @@ module _ (c : tie.After-read-elements) where
   abbrev read-excess : List ℤ
   read-excess =
       excess (s .args .n) (s .pre .0 .0) (s .args .m) (s .args .void .now) (s .args .stress .now) (s .args .k) (s .args .conductivity-void .now)
-      (s .args .conductivity .now) (s .pre .1 .1 .0) (s .args .load) (s .args .burden .now) (s .args .solids .now) (s .args .water .now)
+      (s .args .conductivity .now) (s .pre .1 .1 .0) (s .args .load .0) (s .args .burden .now) (s .args .solids .now) (s .args .water .now)
       (s .pre .1 .1 .1 .0) (s .args .excess .now) (s .args .resistance .now)
 
   abbrev read-resistance : List ℕ
   read-resistance =
       resistance (s .args .n) (s .pre .0 .0) (s .args .m) (s .args .void .now) (s .args .stress .now) (s .args .k) (s .args .conductivity-void .now)
-      (s .args .conductivity .now) (s .pre .1 .1 .0) (s .args .load) (s .args .burden .now) (s .args .solids .now) (s .args .water .now)
+      (s .args .conductivity .now) (s .pre .1 .1 .0) (s .args .load .0) (s .args .burden .now) (s .args .solids .now) (s .args .water .now)
       (s .pre .1 .1 .1 .0) (s .args .excess .now) (s .args .resistance .now)
 
   excess-is : now-excess ≡ read-excess
-  excess-is = simp (readBack (s .fits .load)) at (c .read-elements .ensures .0)
+  excess-is = c .read-elements .ensures .0
 
   resistance-is : now-resistance ≡ read-resistance
-  resistance-is = c .read-elements .ensures .1
+  resistance-is = c .read-elements .ensures .1 .0
 
   readable-now : Readable (s .args .n) now-excess now-resistance
   readable-now =
       readable-as (s .args .n) excess-is resistance-is
       (readable (s .args .n) (s .pre .0 .0) (s .args .m) (s .args .void .now) (s .args .stress .now) (s .args .k) (s .args .conductivity-void .now)
-      (s .args .conductivity .now) (s .pre .1 .1 .0) (s .args .load) (s .args .burden .now) (s .args .solids .now) (s .args .water .now)
+      (s .args .conductivity .now) (s .pre .1 .1 .0) (s .args .load .0) (s .args .burden .now) (s .args .solids .now) (s .args .water .now)
       (s .pre .1 .1 .1 .0) (s .args .excess .now) (s .args .resistance .now))
 
   limited-now : Limited (s .args .n) now-resistance (s .args .sensitivity .now)
   limited-now =
       limited-as (s .args .n) (s .args .sensitivity .now) resistance-is
       (limited (s .args .n) (s .pre .0 .0) (s .args .m) (s .args .void .now) (s .args .stress .now) (s .args .k) (s .args .conductivity-void .now)
-      (s .args .conductivity .now) (s .pre .1 .1 .0) (s .args .load) (s .args .burden .now) (s .args .solids .now) (s .args .water .now)
+      (s .args .conductivity .now) (s .pre .1 .1 .0) (s .args .load .0) (s .args .burden .now) (s .args .solids .now) (s .args .water .now)
       (s .pre .1 .1 .1 .0) (s .args .excess .now) (s .args .resistance .now) (s .args .sensitivity .now) (s .args .low .now) (s .args .high .now)
       (s .args .slope) (s .pre .1 .1 .1 .1 .0))
 
@@ -82,7 +83,7 @@ longest-requires c κs =
       z .pre .0,
       (
         (slope-range (z .args .n) (z .pre .0 .0) (z .args .m) (z .args .void .now) (z .args .stress .now) (z .args .k) (z .args .conductivity-void .now)
-            (z .args .conductivity .now) (z .pre .1 .1 .0) (z .args .load) (z .args .burden .now) (z .args .solids .now) (z .args .water .now)
+            (z .args .conductivity .now) (z .pre .1 .1 .0) (z .args .load .0) (z .args .burden .now) (z .args .solids .now) (z .args .water .now)
             (z .pre .1 .1 .1 .0) (z .args .excess .now) (z .args .resistance .now) (z .args .sensitivity .now) (z .args .low .now) (z .args .high .now)
             (z .args .slope) (z .pre .1 .1 .1 .1 .0)),
         (limited-now f, z .pre .1 .0 .2),
@@ -109,17 +110,17 @@ module _ (c : tie.After-longest) where
   waters : (j : ℕ) → j < s′ .args .n → (getD (s′ .args .low .now) j 0 ≤ 1_000_000_000) × (getD (s′ .args .high .now) j 0 ≤ 1_000_000_000) × (getD (s′ .args .water .now) j 0 ≤ 1_000_000_000)
   waters j h =
       let (low-most, high-most) = bounds-most (s′ .args .n) (s′ .pre .0 .0) (s′ .args .m) (s′ .args .void .now) (s′ .args .stress .now) (s′ .args .k) (s′ .args .conductivity-void .now)
-      (s′ .args .conductivity .now) (s′ .pre .1 .1 .0) (s′ .args .load) (s′ .args .burden .now) (s′ .args .solids .now) (s′ .args .water .now)
+      (s′ .args .conductivity .now) (s′ .pre .1 .1 .0) (s′ .args .load .0) (s′ .args .burden .now) (s′ .args .solids .now) (s′ .args .water .now)
       (s′ .pre .1 .1 .1 .0) (s′ .args .excess .now) (s′ .args .resistance .now) (s′ .args .sensitivity .now) (s′ .args .low .now) (s′ .args .high .now)
       (s′ .args .slope) (s′ .pre .1 .1 .1 .1 .0) j h in (
         low-most,
         high-most,
         waters-most (s′ .args .n) (s′ .pre .0 .0) (s′ .args .m) (s′ .args .void .now) (s′ .args .stress .now) (s′ .args .k) (s′ .args .conductivity-void .now)
-            (s′ .args .conductivity .now) (s′ .pre .1 .1 .0) (s′ .args .load) (s′ .args .burden .now) (s′ .args .solids .now) (s′ .args .water .now)
+            (s′ .args .conductivity .now) (s′ .pre .1 .1 .0) (s′ .args .load .0) (s′ .args .burden .now) (s′ .args .solids .now) (s′ .args .water .now)
             (s′ .pre .1 .1 .1 .0) (s′ .args .excess .now) (s′ .args .resistance .now) j h,
       )
 
-  module _ (site : Site) (st : State) (shows : Shows site st (s′ .args .n) (s′ .args .top) (s′ .args .bottom) (s′ .args .load) (s′ .args .burden .now) (s′ .args .solids .now) (s′ .args .water .now) (s′ .args .m) (s′ .args .void .now) (s′ .args .stress .now) (s′ .args .k) (s′ .args .conductivity-void .now) (s′ .args .conductivity .now)) where
+  module _ (site : Site) (st : State) (shows : Shows site st (s′ .args .n) (s′ .args .top) (s′ .args .bottom) (s′ .args .load .0) (s′ .args .burden .now) (s′ .args .solids .now) (s′ .args .water .now) (s′ .args .m) (s′ .args .void .now) (s′ .args .stress .now) (s′ .args .k) (s′ .args .conductivity-void .now) (s′ .args .conductivity .now)) where
     abbrev turned : Turn
     turned = turn site st (longestUpTo site st (s′ .args .most))
 
@@ -128,7 +129,7 @@ module _ (c : tie.After-longest) where
         (s′ .args .above .now ≡ flowsTurned site st (s′ .args .n) (longestUpTo site st (s′ .args .most)) (s′ .args .above .now))
     none e =
         no-step (s′ .args .n) (s′ .pre .0 .0) (s′ .args .m) (s′ .args .void .now) (s′ .args .stress .now) (s′ .args .k) (s′ .args .conductivity-void .now)
-        (s′ .args .conductivity .now) (s′ .pre .1 .1 .0) (s′ .args .load) (s′ .args .burden .now) (s′ .args .solids .now) (s′ .args .water .now)
+        (s′ .args .conductivity .now) (s′ .pre .1 .1 .0) (s′ .args .load .0) (s′ .args .burden .now) (s′ .args .solids .now) (s′ .args .water .now)
         (s′ .pre .1 .1 .1 .0) (s′ .args .excess .now) (s′ .args .resistance .now) (s′ .args .sensitivity .now) (s′ .args .low .now) (s′ .args .high .now)
         (s′ .args .slope) (s′ .pre .1 .1 .1 .1 .0) (s′ .args .top) (s′ .args .bottom) site st shows (s′ .args .most) (s′ .args .above .now)
         (sym longest-now ∙ e)
@@ -137,7 +138,7 @@ returns : tie.Need-returns
 returns c =
     let l = c .before in
     let e = c .if1 .taken in
-    ((λ site st shows. none l site st shows e .0), ((λ site st shows. none l site st shows e .1), ((λ site st shows. none l site st shows e .2), (excess-is (f l), resistance-is (f l)))))
+    ((λ site st shows. none l site st shows e .0), ((λ site st shows. none l site st shows e .1), ((λ site st shows. none l site st shows e .2), ((excess-is (f l), resistance-is (f l)), (f l .read-elements .ensures .1 .1 .0, f l .read-elements .ensures .1 .1 .1)))))
 
 advance-requires : tie.Need-advance-requires
 advance-requires c κs =
@@ -189,7 +190,7 @@ module _ (c : tie.After-advance) where
   positive : 0 < t
   positive = let some = c .before .before .before .before .before .if1 .left in omega (arith, some)
 
-  module _ (site : Site) (st : State) (shows : Shows site st (z .args .n) (z .args .top) (z .args .bottom) (z .args .load) (z .args .burden .now) (z .args .solids .now) (z .args .water .now) (z .args .m) (z .args .void .now) (z .args .stress .now) (z .args .k) (z .args .conductivity-void .now) (z .args .conductivity .now)) where
+  module _ (site : Site) (st : State) (shows : Shows site st (z .args .n) (z .args .top) (z .args .bottom) (z .args .load .0) (z .args .burden .now) (z .args .solids .now) (z .args .water .now) (z .args .m) (z .args .void .now) (z .args .stress .now) (z .args .k) (z .args .conductivity-void .now) (z .args .conductivity .now)) where
     off : Leaves ≡ c .advance .result →
         (Stopped OffCurve ≡ turnedBy site st (turn site st (longestUpTo site st (z .args .most)))) ×
         (waterAfter stays flows (z .args .n) (z .args .water .now) ≡ waterTurned site st (turn site st (longestUpTo site st (z .args .most))) (z .args .water .now)) ×
@@ -197,7 +198,7 @@ module _ (c : tie.After-advance) where
     off e =
         let gone = leaves-off stays flows (e ∙ gave) in
         let law = off-curve (z .args .n) (z .pre .0 .0) (z .args .m) (z .args .void .now) (z .args .stress .now) (z .args .k) (z .args .conductivity-void .now)
-        (z .args .conductivity .now) (z .pre .1 .1 .0) (z .args .load) (z .args .burden .now) (z .args .solids .now) (z .args .water .now)
+        (z .args .conductivity .now) (z .pre .1 .1 .0) (z .args .load .0) (z .args .burden .now) (z .args .solids .now) (z .args .water .now)
         (z .pre .1 .1 .1 .0) (z .args .excess .now) (z .args .resistance .now) (z .args .sensitivity .now) (z .args .low .now) (z .args .high .now)
         (z .args .slope) (z .pre .1 .1 .1 .1 .0) (z .args .top) (z .args .bottom) site st shows (z .args .most) (z .args .above .now)
         t positive (sym (longest-now l)) gone in
@@ -210,7 +211,7 @@ module _ (c : tie.After-advance) where
     on first last e =
         let (there, first-is, last-is) = flows-on stays flows first last (e ∙ gave) in
         let law = goes-on (z .args .n) (z .pre .0 .0) (z .args .m) (z .args .void .now) (z .args .stress .now) (z .args .k) (z .args .conductivity-void .now)
-        (z .args .conductivity .now) (z .pre .1 .1 .0) (z .args .load) (z .args .burden .now) (z .args .solids .now) (z .args .water .now)
+        (z .args .conductivity .now) (z .pre .1 .1 .0) (z .args .load .0) (z .args .burden .now) (z .args .solids .now) (z .args .water .now)
         (z .pre .1 .1 .1 .0) (z .args .excess .now) (z .args .resistance .now) (z .args .sensitivity .now) (z .args .low .now) (z .args .high .now)
         (z .args .slope) (z .pre .1 .1 .1 .1 .0) (z .args .top) (z .args .bottom) site st shows (z .args .most) (z .args .above .now)
         t positive (sym (longest-now l)) there first-is last-is in
@@ -220,13 +221,13 @@ returns-2 : tie.Need-returns-2
 returns-2 c =
     let a = c .before .before in
     let e : Leaves ≡ a .advance .result = sym (c .enum-told .given .1) in
-    ((λ site st shows. off a site st shows e .0), ((λ site st shows. water-left a ∙ off a site st shows e .1), ((λ site st shows. above-left a ∙ off a site st shows e .2), (excess-is (f (l a)), resistance-is (f (l a))))))
+    ((λ site st shows. off a site st shows e .0), ((λ site st shows. water-left a ∙ off a site st shows e .1), ((λ site st shows. above-left a ∙ off a site st shows e .2), ((excess-is (f (l a)), resistance-is (f (l a))), (f (l a) .read-elements .ensures .1 .1 .0, f (l a) .read-elements .ensures .1 .1 .1)))))
 
 returns-3 : tie.Need-returns-3
 returns-3 c =
     let a = c .before .before .before in
     let e = sym (c .before .first .given .1) in
-    ((λ site st shows. simp (readBack {z = c .before .first .given .0 .0} (record { sfits = c .known-told .given .0 .1 }), readBack {z = c .before .first .given .0 .1 .0} (record { sfits = c .known-told .given .1 .0 .1 })) (on a site st shows _ _ e .0)), ((λ site st shows. water-left a ∙ on a site st shows _ _ e .1), ((λ site st shows. above-left a ∙ on a site st shows _ _ e .2), (excess-is (f (l a)), resistance-is (f (l a))))))
+    ((λ site st shows. simp (readBack {z = c .before .first .given .0 .0} (record { sfits = c .known-told .given .0 .1 }), readBack {z = c .before .first .given .0 .1 .0} (record { sfits = c .known-told .given .1 .0 .1 })) (on a site st shows _ _ e .0)), ((λ site st shows. water-left a ∙ on a site st shows _ _ e .1), ((λ site st shows. above-left a ∙ on a site st shows _ _ e .2), ((excess-is (f (l a)), resistance-is (f (l a))), (f (l a) .read-elements .ensures .1 .1 .0, f (l a) .read-elements .ensures .1 .1 .1)))))
 
 pub turn-spec : {M : Type 1} → statement M
 turn-spec =

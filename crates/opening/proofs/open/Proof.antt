@@ -1,87 +1,97 @@
-use Prim.Native.Nat.{ℕ}
 use borrow.Author.Needs.{needs}
+use Prim.Native.Nat.{ℕ}
 use mathlib.Core.List.{List}
 use mathlib.Core.Path.{_≡_, refl, sym, ap, _∙_}
 use Rattle.numbers.specs.Arrays.{zeros}
-use Rattle.numbers.specs.Signed.{readBack}
-use Rattle.opening.specs.Accepted.{blank-arrays, refused-opening, header-whole, numbers-kept, record-left}
-use Rattle.opening.specs.Lent.{Leaves, answerOf}
-use Rattle.opening.specs.declared.causes.Checked.the-variants.{Sound}
-use Rattle.rules.specs.Job.{described}
-use Rattle.rules.specs.Opening.{opening, refusedOpening}
-use Rattle.rules.specs.declared.answers.Answer.the-variants.{Done, Refused}
+use Rattle.job.specs.Pairs.{Pairs}
+use Rattle.opening.specs.Opened.{openedJob, leftDescription}
+use Rattle.opening.specs.OpenedLaws.{opened-blank, opened-done, opened-record}
+use Rattle.opening.specs.declared.Opened.the-variants.{Accepted}
+use Rattle.rules.specs.Job.{countsOf}
+use Rattle.rules.specs.Opening.{opening, openingNumbers}
+use Rattle.rules.specs.Outcome.{answerNumbers}
+use Rattle.rules.specs.Record.{layerOf, recordOf, soilOf}
+use Rattle.rules.specs.declared.answers.Answer.the-variants.{Done}
 use Rattle.rules.specs.declared.answers.Answered.{Answered}
-use Rattle.rules.specs.declared.record.Record.{Record}
+use Rattle.rules.specs.declared.job.Header.{Header}
+use Rattle.rules.specs.declared.record.CurveCounts.{CurveCounts}
+use Rattle.rules.specs.declared.record.Frame.{Frame}
+use Rattle.rules.specs.declared.record.Progress.{Progress}
 use Rattle.opening.proofs.open.Statement.{statement}
 use Rattle.opening.proofs.open.Tie as tie
 
+-- an accepted job, by the counts of its header and the arrays that are left
+accepted : (job : List ℕ) {header : Header} {frame : Frame} {progress : Progress} {counts : CurveCounts}
+    {solids water void stress conductivityVoid conductivity tableTime tableLoad : List ℕ} → openedJob job ≡ Accepted header frame progress →
+    counts ≡ countsOf header → Pairs (leftDescription job) solids water void stress conductivityVoid conductivity tableTime tableLoad →
+    record {
+      answer = Done;
+      after = recordOf (soilOf counts void stress conductivityVoid conductivity) (layerOf frame progress solids water tableTime tableLoad);
+    } ≡ opening job
+accepted job e counted held =
+    rw counted (λ i. record { answer = sym (opened-done job e) i; after = sym (opened-record job e held) i })
+
+numbered : {a b : Answered} → a ≡ b → answerNumbers (a .answer) ≡ answerNumbers (b .answer)
+numbered e = ap (λ (a : Answered). answerNumbers (a .answer)) e
+
 open-into-requires : tie.Need-open-into-requires
 unfolding zeros
-open-into-requires c κs = blank-arrays
+open-into-requires c κs = (
+  record {
+    solids-blank = refl;
+    water-blank = refl;
+    compressibility-stress-blank = refl;
+    compressibility-void-blank = refl;
+    conductivity-void-blank = refl;
+    conductivity-blank = refl;
+    table-time-blank = refl;
+    table-load-blank = refl;
+  },
+  refl,
+)
 
-enum-known-checked : tie.Need-enum-known-checked
-enum-known-checked c = search needs
+enum-known-opened : tie.Need-enum-known-opened
+enum-known-opened c = search needs
 
 refused-requires : tie.Need-refused-requires
 refused-requires c κs = search needs
 
+enum-known-opened-2 : tie.Need-enum-known-opened-2
+enum-known-opened-2 c = search needs
+
+curve-counts-requires : tie.Need-curve-counts-requires
+curve-counts-requires c κs = search needs
+
 returns : tie.Need-returns
-unfolding answerOf
+unfolding openingNumbers
 returns c =
     let k = c .before .before in
     let o = k .before .before in
-    c .refused .ensures ∙ refused-opening _ _ (o .open-into .ensures .0 ∙ ap answerOf (k .checked .given .1))
+    let refused = c .refused .ensures ∙ sym (opened-blank _ _ (sym (o .open-into .ensures .0) ∙ k .opened .given .1)) in
+    (refused, numbered refused)
 
-enum-told : tie.Need-enum-told
-enum-told c = search needs
-
--- ---- an accepted job
-
-module _ (c : tie.After-enum-told) where
-  abbrev o : tie.After-open-into
-  o = c .before .before
-
-  abbrev job : List ℕ
-  job = o .before .before .before .before .before .before .before .before .before .before .args .job .now
-
-  done : (opening job) .answer ≡ Done
-  unfolding answerOf
-  done = o .open-into .ensures .0 ∙ ap answerOf (c .enum-told .given .1)
-
-  leaves : Leaves job (o .open-into .last .1 .0) (o .open-into .last .1 .1 .0) (o .open-into .last .1 .1 .1 .0) (o .open-into .last .1 .1 .1 .1 .0) (o .open-into .last .1 .1 .1 .1 .1 .0) (o .open-into .last .1 .1 .1 .1 .1 .1 .0) (o .open-into .last .1 .1 .1 .1 .1 .1 .1 .0) (o .open-into .last .1 .1 .1 .1 .1 .1 .1 .1 .0)
-  leaves = o .open-into .ensures .1 (c .enum-told .given .1)
-
-read-header-requires : tie.Need-read-header-requires
-read-header-requires c κs = header-whole (job c) (done c)
-
-opened-numbers-requires : tie.Need-opened-numbers-requires
-opened-numbers-requires c κs =
-    let h = c .before .before in
-    let t = h .before in
-    numbers-kept _ _ _ _ _ _ _ _ _ (done t) (leaves t) (h .read-header .result) (h .read-header .ensures)
+done-requires : tie.Need-done-requires
+done-requires c κs = search needs
 
 returns-2 : tie.Need-returns-2
+unfolding openingNumbers
 returns-2 c =
-    let n = c .before .before .before in
-    let h = n .before .before .before in
-    let t = h .before in
-    let numbers = n .opened-numbers .ensures in
-    let top-level = readBack {z = n .opened-numbers .result .«top_level»} (record { sfits = c .before .before .struct-told .given .1 .1 .0 .1 }) in
-    let bottom-level = readBack {z = n .opened-numbers .result .«bottom_level»} (record { sfits = c .before .struct-told2 .given .1 .1 .1 .0 .1 }) in
-    let load = readBack {z = n .opened-numbers .result .load} (record { sfits = c .struct-told3 .given .1 .1 .1 .1 .0 .1 }) in
-    let left = record-left _ _ _ _ _ _ _ _ _ (done t) (leaves t) (h .read-header .result) (h .read-header .ensures) _ _ _ _ _ _ (numbers .0 .0) (numbers .0 .1)
-    (top-level ∙ numbers .1 .0 .0) (bottom-level ∙ numbers .1 .0 .1) (load ∙ numbers .1 .1 .0) (numbers .1 .1 .1) in
-    λ i. record { answer = sym (done t) i; after = left i }
+    let n = c .before in
+    let t = n .before .before in
+    let o = t .before .before in
+    let opened = sym (o .open-into .ensures .0) ∙ t .opened2 .given .1 in
+    let opens = c .done .ensures ∙ accepted _ opened (n .curve-counts .ensures) (o .open-into .ensures .1 .0) in
+    (opens, numbered opens)
 
 pub open-spec : {M : Type 1} → statement M
 open-spec =
     tie.close
     (tie.spec
     open-into-requires
-    enum-known-checked
+    enum-known-opened
     refused-requires
+    enum-known-opened-2
+    curve-counts-requires
+    done-requires
     returns
-    enum-told
-    read-header-requires
-    opened-numbers-requires
     returns-2)

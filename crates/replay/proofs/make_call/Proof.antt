@@ -17,18 +17,18 @@ take-run-requires c κs = search needs
 returns : tie.Need-returns
 returns c =
     let s = c .before .before in
-    c .set-load .ensures ∙ ap (called (s .args .layer)) (call-loads (s .args .kind) (s .args .a) (s .args .b) (c .before .match .keys1))
+    c .set-load .ensures .0 ∙ ap (called (s .args .layer)) (call-loads (s .args .kind) (s .args .a) (s .args .b) (c .before .match .keys1))
 
 returns-2 : tie.Need-returns-2
 returns-2 c =
     let s = c .before .before in
-    c .take-step .ensures ∙ ap (called (s .args .layer)) (call-steps (s .args .kind) (s .args .a) (s .args .b) (c .before .match .keys2))
+    c .take-step .ensures .0 ∙ ap (called (s .args .layer)) (call-steps (s .args .kind) (s .args .a) (s .args .b) (c .before .match .keys2))
 
 returns-3 : tie.Need-returns-3
 returns-3 c =
     let s = c .before .before in
     let (rest, first) = c .before .match .rest in
-    c .take-run .ensures ∙ ap (called (s .args .layer)) (call-runs (s .args .kind) (s .args .a) (s .args .b) (rest .1) first)
+    c .take-run .ensures .0 ∙ ap (called (s .args .layer)) (call-runs (s .args .kind) (s .args .a) (s .args .b) (rest .1) first)
 
 pub make-call-spec : {M : Type 1} → statement M
 make-call-spec =

@@ -28,11 +28,11 @@ returns c =
     let s = o .before .before .before .before in
     let made = c .before .before .replay-calls in
     let done = c .before .before .before .before .enum-told .given .1 in
-    let (given, written) = replay-done (s .args .job .now) (s .args .calls .now) (s .args .answers .now) (o .open .result) (o .open .ensures) done (made .result) _ (made .ensures .0) (made .ensures .1) in (
+    let (given, written) = replay-done (s .args .job .now) (s .args .calls .now) (s .args .answers .now) (o .open .result) (o .open .ensures .0) done (made .result) _ (made .ensures .0) (made .ensures .1) in (
       given,
       (
         written,
-        λ _. claimed (s .args .job .now) (s .args .calls .now) (s .args .answers .now) (o .open .result) (o .open .ensures) done (made .result) _ (made .ensures .0) (made .ensures .1),
+        λ _. claimed (s .args .job .now) (s .args .calls .now) (s .args .answers .now) (o .open .result) (o .open .ensures .0) done (made .result) _ (made .ensures .0) (made .ensures .1),
       ),
     )
 
@@ -41,7 +41,7 @@ returns-2 c =
     let o = c .before .before .before in
     let s = o .before .before .before .before in
     let not = ran-not-done _ _ _ (c .enum-told2 .given .1) in
-    let (given, written) = replay-not-done (s .args .job .now) (s .args .calls .now) (s .args .answers .now) (o .open .result) (o .open .ensures) not in
+    let (given, written) = replay-not-done (s .args .job .now) (s .args .calls .now) (s .args .answers .now) (o .open .result) (o .open .ensures .0) not in
     (given, (written, λ done. absurd (not done)))
 
 returns-3 : tie.Need-returns-3
@@ -49,7 +49,7 @@ returns-3 c =
     let o = c .before .before .before in
     let s = o .before .before .before .before in
     let not = refused-not-done _ _ (c .enum-told3 .given .1) in
-    let (given, written) = replay-not-done (s .args .job .now) (s .args .calls .now) (s .args .answers .now) (o .open .result) (o .open .ensures) not in
+    let (given, written) = replay-not-done (s .args .job .now) (s .args .calls .now) (s .args .answers .now) (o .open .result) (o .open .ensures .0) not in
     (given, (written, λ done. absurd (not done)))
 
 pub replay-spec : {M : Type 1} → statement M

@@ -3,7 +3,7 @@ use borrow.Author.Tests.{not-true, not-false}
 use lib.ListN.{length}
 use mathlib.Core.Bool.{true}
 use mathlib.Core.Path.{_≡_, sym, _∙_}
-use Rattle.calls.specs.Standing.{counted}
+use Rattle.lent.specs.Standing.{counted}
 use Rattle.result.specs.ResultLaws.{no-layer, short-buffer, result-written, number-is, buffer-is}
 use Rattle.rules.specs.Record.{isLayer}
 use Rattle.rules.specs.Result.{withheld, resultSize}
@@ -22,15 +22,15 @@ unfolding withheld
 returns c =
     let s = c .before .before .before .before in
     let no = sym (c .before .before .is-layer .ensures) ∙ not-true _ (c .before .if1 .taken) in
-    let e = no-layer (s .args .layer) (s .args .stop) (s .args .steps) (s .args .out .now) no in
+    let e = no-layer (s .args .r) (s .args .stop) (s .args .steps) (s .args .out .now) no in
     (c .withheld .ensures ∙ number-is e, buffer-is e)
 
 -- the record is a layer
-standing : (c : tie.Else1) → isLayer (c .before .before .before .args .layer) ≡ true
+standing : (c : tie.Else1) → isLayer (c .before .before .before .args .r) ≡ true
 standing c = sym (c .before .is-layer .ensures) ∙ not-false _ (c .if1 .left)
 
 result-size-requires : tie.Need-result-size-requires
-result-size-requires c κs = counted (c .before .before .before .args .layer) (standing c) .1
+result-size-requires c κs = counted (c .before .before .before .args .r) (standing c) .1
 
 withheld-requires-2 : tie.Need-withheld-requires-2
 withheld-requires-2 c κs = search needs
@@ -41,13 +41,13 @@ returns-2 c =
     let f = c .before .before .before in
     let s = f .before .before .before in
     let short = rw (c .before .before .result-size .ensures) at (c .before .if2 .taken) in
-    let e = short-buffer (s .args .layer) (s .args .stop) (s .args .steps) (s .args .out .now) (standing f) short in
+    let e = short-buffer (s .args .r) (s .args .stop) (s .args .steps) (s .args .out .now) (standing f) short in
     (c .withheld2 .ensures ∙ number-is e, buffer-is e)
 
 -- and its result has room
 room : (c : tie.Else2) →
     let s = c .before .before .before .before .before in
-    resultSize (s .args .layer .elements) ≤ length (s .args .out .now)
+    resultSize (s .args .r .layer .frame .elements) ≤ length (s .args .out .now)
 room c = rw (c .before .result-size .ensures) at (c .if2 .left)
 
 write-layer-requires : tie.Need-write-layer-requires
@@ -61,7 +61,7 @@ returns-3 c =
     let w = c .before .before in
     let f = w .before .before in
     let s = f .before .before .before .before .before in
-    let e = result-written (s .args .layer) (s .args .stop) (s .args .steps) (s .args .out .now) (standing (f .before .before)) (room f) in
+    let e = result-written (s .args .r) (s .args .stop) (s .args .steps) (s .args .out .now) (standing (f .before .before)) (room f) in
     (number-is e, w .write-layer .ensures ∙ buffer-is e)
 
 pub write-result-spec : {M : Type 1} → statement M

@@ -1,89 +1,123 @@
-use borrow.Author.Tests.{not-true, not-false, lt-ltb, le-ltb}
-use mathlib.Core.Bool.{true}
-use mathlib.Core.Path.{_≡_, sym, _∙_}
-use Rattle.calls.specs.CallLaws.{answered, not-layer, refused-on-layer}
-use Rattle.numbers.specs.Searches.{passed}
-use Rattle.rules.proofs.Limits.{within-parts}
-use Rattle.rules.specs.Quantities.{within, clockLimits, budgetLimits}
-use Rattle.rules.specs.Record.{recordSite, recordState, isLayer}
-use Rattle.rules.specs.declared.answers.Call.the-variants.{Run}
-use Rattle.rules.specs.declared.answers.Refusal.the-variants.{RunOutside}
-use Rattle.run.specs.RunLaws.{end-before-clock, end-past-limit, budget-past-limit}
+use Prim.Native.Nat.{ℕ}
 use borrow.Author.Needs.{needs}
+use borrow.Author.Tests.{not-true, not-false, lt-ltb, le-ltb}
+use lib.Dec.{ltb}
+use mathlib.Core.Bool.{true, false}
+use mathlib.Core.Path.{_≡_, refl, sym, _∙_}
+use Rattle.lent.specs.CallLaws.{in-numbers, not-layer}
+use Rattle.numbers.specs.Searches.{passed}
+use Rattle.rules.proofs.Limits.{within-parts, clock-tells}
+use Rattle.rules.specs.Quantities.{within, clockLimits, budgetLimits}
+use Rattle.rules.specs.Record.{isLayer}
+use Rattle.rules.specs.declared.answers.Call.the-variants.{Run}
+use Rattle.rules.specs.declared.record.Record.{Record}
+use Rattle.run.proofs.RunLaws.{run-outside}
 use Rattle.run.proofs.take_run.Statement.{statement}
 use Rattle.run.proofs.take_run.Tie as tie
 
--- whether the record is a layer
 is-layer-requires : tie.Need-is-layer-requires
 is-layer-requires c κs = search needs
 
 refused-requires : tie.Need-refused-requires
 refused-requires c κs = search needs
 
--- the record is a layer, and each limit is kept
-standing : (c : tie.Else1) → isLayer (c .before .before .args .layer) ≡ true
-standing c = sym (c .before .is-layer .ensures) ∙ not-false _ (c .if1 .left)
-
-end-kept : (c : tie.Else3) → within clockLimits (c .before .before .before .before .before .before .before .args .end) ≡ true
-end-kept c = sym (c .before .holds .ensures) ∙ not-false _ (c .if3 .left)
-
 returns : tie.Need-returns
 returns c =
     let s = c .before .before .before in
-    answered (c .refused .result) (c .refused .ensures .0) (c .refused .ensures .1) ∙
-    sym (not-layer (s .args .layer) (Run (s .args .end) (s .args .budget)) (sym (c .before .before .is-layer .ensures) ∙ not-true _ (c .before .if1 .taken)))
+    in-numbers (s .args .r) (Run (s .args .end) (s .args .budget))
+    (c .refused .ensures ∙ sym (not-layer (s .args .r) (Run (s .args .end) (s .args .budget)) (sym (c .before .before .is-layer .ensures) ∙ not-true _ (c .before .if1 .taken))))
+
+-- the record is a layer
+module _ (c : tie.After-struct-known) where
+  abbrev start : tie.Start
+  start = c .before .before .before .before
+
+  abbrev r : Record
+  r = start .args .r
+
+  is : isLayer r ≡ true
+  is = sym (c .before .before .before .is-layer .ensures) ∙ not-false _ (c .before .before .if1 .left)
 
 refused-requires-2 : tie.Need-refused-requires-2
 refused-requires-2 c κs = search needs
 
 returns-2 : tie.Need-returns-2
-unfolding recordState
 returns-2 c =
-    let s = c .before .before .before .before .before .before in
-    answered (c .refused2 .result) (c .refused2 .ensures .0) (c .refused2 .ensures .1) ∙
-    sym (refused-on-layer (s .args .layer) (Run (s .args .end) (s .args .budget)) RunOutside (standing (c .before .before .before .before)) (end-before-clock (recordSite (s .args .layer)) (recordState (s .args .layer)) (s .args .end) (s .args .budget) (lt-ltb (s .args .end) (s .args .layer .clock .0) (c .before .if2 .taken))))
+    let k = c .before .before in
+    let a = start k .args in
+    in-numbers (r k) (Run (a .end) (a .budget))
+    (c .refused2 .ensures ∙ sym (run-outside (r k) (a .end) (a .budget) (is k) (lt-ltb (a .end) (r k .layer .progress .clock .0) (c .before .if2 .taken)) refl refl refl))
 
-holds-requires : tie.Need-holds-requires
-holds-requires c κs = search needs
+-- the end is not before its clock
+module _ (c : tie.After-new) where
+  abbrev k₁ : tie.After-struct-known
+  k₁ = c .before .before
+
+  abbrev end : ℕ
+  end = start k₁ .args .end
+
+  abbrev budget : ℕ
+  budget = start k₁ .args .budget
+
+  not-early : ltb end (r k₁ .layer .progress .clock .0) ≡ false
+  not-early = le-ltb end (r k₁ .layer .progress .clock .0) (c .before .if2 .left)
+
+new-requires : tie.Need-new-requires
+new-requires c κs = search needs
+
+enum-told : tie.Need-enum-told
+enum-told c = search needs
+
+enum-told-2 : tie.Need-enum-told-2
+enum-told-2 c = search needs
 
 refused-requires-3 : tie.Need-refused-requires-3
 refused-requires-3 c κs = search needs
 
 returns-3 : tie.Need-returns-3
-unfolding recordState
 returns-3 c =
-    let s = c .before .before .before .before .before .before .before .before in
-    answered (c .refused3 .result) (c .refused3 .ensures .0) (c .refused3 .ensures .1) ∙
-    sym (refused-on-layer (s .args .layer) (Run (s .args .end) (s .args .budget)) RunOutside (standing (c .before .before .before .before .before .before))
-    (end-past-limit (recordSite (s .args .layer)) (recordState (s .args .layer)) (s .args .end) (s .args .budget) (le-ltb (s .args .end) (s .args .layer .clock .0) (c .before .before .before .if2 .left)) (sym (c .before .before .holds .ensures) ∙ not-true _ (c .before .if3 .taken))))
+    let n = c .before .before .before in
+    let k = k₁ n in
+    in-numbers (r k) (Run (end n) (budget n))
+    (c .refused3 .ensures ∙ sym (run-outside (r k) (end n) (budget n) (is k) (not-early n) (clock-tells (end n) (sym (c .before .enum-told2 .given .1) ∙ n .new .ensures)) refl refl))
 
-holds-requires-2 : tie.Need-holds-requires-2
-holds-requires-2 c κs = search needs
+-- the end keeps its limits
+module _ (c : tie.After-holds) where
+  abbrev n₁ : tie.After-new
+  n₁ = c .before .before .before
+
+  timed : within clockLimits (end n₁) ≡ true
+  timed = clock-tells (end n₁) (sym (c .before .enum-told .given .1) ∙ n₁ .new .ensures) .0
+
+holds-requires : tie.Need-holds-requires
+holds-requires c κs = search needs
 
 refused-requires-4 : tie.Need-refused-requires-4
 refused-requires-4 c κs = search needs
 
 returns-4 : tie.Need-returns-4
-unfolding recordState
 returns-4 c =
-    let s = c .before .before .before .before .before .before .before .before .before .before in
-    answered (c .refused4 .result) (c .refused4 .ensures .0) (c .refused4 .ensures .1) ∙
-    sym (refused-on-layer (s .args .layer) (Run (s .args .end) (s .args .budget)) RunOutside (standing (c .before .before .before .before .before .before .before .before))
-    (budget-past-limit (recordSite (s .args .layer)) (recordState (s .args .layer)) (s .args .end) (s .args .budget) (le-ltb (s .args .end) (s .args .layer .clock .0) (c .before .before .before .before .before .if2 .left)) (end-kept (c .before .before .before)) (sym (c .before .before .holds2 .ensures) ∙ not-true _ (c .before .if4 .taken))))
+    let h = c .before .before in
+    let n = n₁ h in
+    let k = k₁ n in
+    in-numbers (r k) (Run (end n) (budget n))
+    (c .refused4 .ensures ∙ sym (run-outside (r k) (end n) (budget n) (is k) (not-early n) (timed h) (sym (h .holds .ensures) ∙ not-true _ (c .before .if3 .taken)) refl))
 
 run-layer-requires : tie.Need-run-layer-requires
 run-layer-requires c κs =
-    let s = c .before .before .before .before .before .before .before .before .before in (
-      standing (c .before .before .before .before .before .before .before),
+    let h = c .before in
+    let n = n₁ h in (
+      is (k₁ n),
       (
-        c .before .before .before .before .if2 .left,
-        within-parts clockLimits (s .args .end) (passed (end-kept (c .before .before))) .1,
-        within-parts budgetLimits (s .args .budget) (passed (sym (c .before .holds2 .ensures) ∙ not-false _ (c .if4 .left))) .1,
+        n .before .if2 .left,
+        within-parts clockLimits (end n) (passed (timed h)) .1,
+        within-parts budgetLimits (budget n) (passed (sym (h .holds .ensures) ∙ not-false _ (c .if3 .left))) .1,
       ),
     )
 
 returns-5 : tie.Need-returns-5
-returns-5 c = search needs
+returns-5 c =
+    let n = n₁ (c .before .before) in in-numbers (r (k₁ n)) (Run (end n) (budget n)) (c .run-layer .ensures)
 
 pub take-run-spec : {M : Type 1} → statement M
 take-run-spec =
@@ -94,10 +128,12 @@ take-run-spec =
     returns
     refused-requires-2
     returns-2
-    holds-requires
+    new-requires
+    enum-told
+    enum-told-2
     refused-requires-3
     returns-3
-    holds-requires-2
+    holds-requires
     refused-requires-4
     returns-4
     run-layer-requires

@@ -1,51 +1,38 @@
 use Prim.Native.Nat.{ℕ, _-_, _≤_}
 use native.Mathlib.Omega.{arith}
 use borrow.Author.Tests.{not-true, not-false}
-use lib.IntN.{pos}
 use lib.ListN.{getD}
 use mathlib.Core.Bool.{Bool}
-use mathlib.Core.List.{map}
+use mathlib.Core.List.{List}
 use mathlib.Core.Path.{_≡_, sym, _∙_}
-use Rattle.numbers.specs.Arrays.{firstPlaces, everyIndex}
+use Rattle.numbers.specs.Arrays.{everyIndex}
 use Rattle.numbers.specs.Indices.{restPasses, all-rest, index-fails, index-goes, index-ends}
-use Rattle.rules.specs.Curve.{points}
-use Rattle.rules.specs.Step.{allOnCurve}
-use Rattle.rules.proofs.Sound.{Compressible, compressible}
-use Rattle.start.proofs.Given.{boundedAt, given-on}
+use Rattle.rules.specs.Curve.{Point, points, isOn}
+use Rattle.rules.specs.Layer.{effectiveStress}
+use Rattle.start.proofs.Given.{each-on}
 use Rattle.start.proofs.all_on_curve.Statement.{statement}
 use Rattle.start.proofs.all_on_curve.Tie as tie
 
+-- element j is on the curve
+abbrev onAt : (curve : List Point) (solids water : List ℕ) → ℕ → Bool
+onAt curve solids water j = isOn (effectiveStress curve (getD solids j 0) (getD water j 0))
+
 abbrev Inv-loop : tie.InvT-loop
-Inv-loop n solids water m void stress least greatest j₀ j =
-    (j ≤ n) × (restPasses n (boundedAt least greatest solids water) j ≡ everyIndex n (boundedAt least greatest solids water))
+Inv-loop n solids water m void stress j₀ j =
+    (j ≤ n) × (restPasses n (onAt (points m void stress) solids water) j ≡ everyIndex n (onAt (points m void stress) solids water))
 
 abbrev μ-loop : tie.MeasureT-loop
-μ-loop n solids water m void stress least greatest j₀ j = n - j
+μ-loop n solids water m void stress j₀ j = n - j
 
 module _ (l : tie.At-loop Inv-loop μ-loop) where
   abbrev s : tie.Start Inv-loop μ-loop
-  s = l .before .before .before
+  s = l .before
 
   abbrev j : ℕ
   j = l .loop .j
 
   abbrev test : ℕ → Bool
-  test = boundedAt (getD (s .args .void .now) (s .args .m - 1) 0) (getD (s .args .void .now) 0 0) (s .args .solids .now) (s .args .water .now)
-
-  curve : Compressible (s .args .m) (s .args .void .now) (s .args .stress .now)
-  curve = compressible (s .args .m) (s .args .void .now) (s .args .stress .now) (s .pre .1 .1 .1)
-
-sub-least : tie.Need-sub-least Inv-loop μ-loop
-sub-least c = omega arith
-
-mul-least : tie.Need-mul-least Inv-loop μ-loop
-mul-least c = omega arith
-
-element-copy-out-least : tie.Need-element-copy-out-least Inv-loop μ-loop
-element-copy-out-least c = omega arith
-
-element-copy-out-greatest : tie.Need-element-copy-out-greatest Inv-loop μ-loop
-element-copy-out-greatest c = omega arith
+  test = onAt (points (s .args .m) (s .args .void .now) (s .args .stress .now)) (s .args .solids .now) (s .args .water .now)
 
 loop-holds : tie.Need-loop-holds Inv-loop μ-loop
 loop-holds c = (omega arith, all-rest _ _)
@@ -65,18 +52,12 @@ element-copy-out-on-curve-2 c = omega arith
 on-curve-requires : tie.Need-on-curve-requires Inv-loop μ-loop
 on-curve-requires c κs =
     let l = c .before .before .before in
-    (s l .pre .1 .0 (j l) (omega arith), (curve l .void-high _ (omega arith), curve l .void-high 0 (omega arith)))
-
--- all heights between their bounds are all heights on the curve
-all-on : (l : tie.At-loop Inv-loop μ-loop) → let a = s l .args in
-    everyIndex (a .n) (test l) ≡
-    allOnCurve (points (a .m) (a .void .now) (a .stress .now)) (firstPlaces (a .n) (a .solids .now)) (map pos (firstPlaces (a .n) (a .water .now)))
-all-on l = given-on _ _ _ _ _ _ (λ i h. s l .pre .1 .0 i h .0) (omega arith) (s l .pre .1 .1 .1)
+    (s l .pre .1 .0 (j l) (omega arith), s l .pre .1 .1)
 
 returns : tie.Need-returns Inv-loop μ-loop
 returns c =
     let l = c .before .before .before .before .before in
-    index-fails (s l .args .n) (test l) (j l) (l .loop .inv .1) (omega arith) (sym (c .before .on-curve .ensures) ∙ not-true _ (c .if1 .taken)) ∙ all-on l
+    index-fails (s l .args .n) (test l) (j l) (l .loop .inv .1) (omega arith) (sym (c .before .on-curve .ensures) ∙ not-true _ (c .if1 .taken)) ∙ sym (each-on _ _ _ _)
 
 add-j : tie.Need-add-j Inv-loop μ-loop
 add-j c = omega arith
@@ -90,7 +71,7 @@ loop-again c =
     (omega arith, index-goes (s l .args .n) (test l) (j l) (l .loop .inv .1) (omega arith) (sym (c .before .on-curve .ensures) ∙ not-false _ (c .if1 .left)))
 
 returns-2 : tie.Need-returns-2 Inv-loop μ-loop
-returns-2 c = let l = c .before in index-ends (s l .args .n) (test l) (j l) (l .loop .inv .1) (omega arith) ∙ all-on l
+returns-2 c = let l = c .before in index-ends (s l .args .n) (test l) (j l) (l .loop .inv .1) (omega arith) ∙ sym (each-on _ _ _ _)
 
 pub all-on-curve-spec : {M : Type 1} → statement M
 all-on-curve-spec =
@@ -98,10 +79,6 @@ all-on-curve-spec =
     (tie.spec
     Inv-loop
     μ-loop
-    sub-least
-    mul-least
-    element-copy-out-least
-    element-copy-out-greatest
     loop-holds
     mul-on-curve
     element-copy-out-on-curve

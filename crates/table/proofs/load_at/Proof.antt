@@ -1,12 +1,11 @@
 use Prim.Native.Nat.{_+_, _-_, _≤_, _<_}
 use native.Mathlib.Omega.{arith}
 use lib.ListN.{getD, drop}
-use mathlib.Core.Path.{_≡_, refl, sym, _∙_}
-use mir.Syntax.{w64}
-use mir.Val.{SFits}
-use Rattle.numbers.specs.Signed.{signed, one-sided, readBack, readUnsigned}
+use mathlib.Core.Path.{_≡_, refl, sym, ap, _∙_}
+use Rattle.numbers.specs.Signed.{signed, readUnsigned}
 use Rattle.rules.specs.Curve.{points}
 use Rattle.rules.specs.Load.{loadAt}
+use Rattle.rules.specs.Quantities.{pressure}
 use Rattle.table.proofs.Laws.{Tabled, tabled, load-here, load-later, load-last}
 use Rattle.table.proofs.load_at.Statement.{statement}
 use Rattle.table.proofs.load_at.Tie as tie
@@ -78,9 +77,8 @@ returns c =
     let l = c .before .before .before .before .before .before .before .before in
     let a = l .before .args in
     let (same, stress) = c .load-between .ensures in
-    let fits : SFits w64 (c .load-between .result) = omega (signed, one-sided (c .load-between .result)) in
     let here = load-here (a .n) (a .time .now) (a .load .now) (l .loop .i) (a .clock) (omega arith) (omega arith) in
-    simp (readBack fits) (rw (← l .loop .inv .1 .1, here) same, stress)
+    (rw (← l .loop .inv .1 .1, here) same, stress)
 
 add-i : tie.Need-add-i Inv-loop μ-loop
 add-i c = omega arith
@@ -95,14 +93,14 @@ loop-again c =
     let later = load-later (a .n) (a .time .now) (a .load .now) (l .loop .i) (a .clock) (omega arith) (omega arith) in
     (omega arith, (omega arith, sym later ∙ l .loop .inv .1 .1))
 
-mul-result : tie.Need-mul-result Inv-loop μ-loop
-mul-result c = omega arith
+mul-t30 : tie.Need-mul-t30 Inv-loop μ-loop
+mul-t30 c = omega arith
 
-element-copy-out-result : tie.Need-element-copy-out-result Inv-loop μ-loop
-element-copy-out-result c = omega arith
+element-copy-out-t33 : tie.Need-element-copy-out-t33 Inv-loop μ-loop
+element-copy-out-t33 c = omega arith
 
-cast-result : tie.Need-cast-result Inv-loop μ-loop
-cast-result c =
+cast-t34 : tie.Need-cast-t34 Inv-loop μ-loop
+cast-t34 c =
     let l = c .before .before in omega (signed, sound (l .before) .load-high (l .loop .i) (omega arith))
 
 returns-2 : tie.Need-returns-2 Inv-loop μ-loop
@@ -112,7 +110,7 @@ returns-2 c =
     let high = sound (l .before) .load-high (l .loop .i) (omega arith) in
     let last = load-last (a .n) (a .time .now) (a .load .now) (l .loop .i) (a .clock) (omega arith) in
     simp (readUnsigned (getD (a .load .now) (l .loop .i) 0) (omega arith))
-    (sym last ∙ l .loop .inv .1 .1, (omega signed, omega signed))
+    (ap pressure (sym last ∙ l .loop .inv .1 .1), (omega signed, omega signed))
 
 pub load-at-spec : {M : Type 1} → statement M
 load-at-spec =
@@ -140,7 +138,7 @@ load-at-spec =
     add-i
     loop-less
     loop-again
-    mul-result
-    element-copy-out-result
-    cast-result
+    mul-t30
+    element-copy-out-t33
+    cast-t34
     returns-2)

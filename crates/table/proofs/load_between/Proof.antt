@@ -1,4 +1,4 @@
-use Prim.Native.Nat.{ℕ, _-_}
+use Prim.Native.Nat.{ℕ, _+_, _-_, _*_}
 use native.Mathlib.Omega.{arith}
 use borrow.Author.Needs.{needs}
 use lib.Dec.{lit≤}
@@ -9,6 +9,7 @@ use mir.Val.{SFits, toZ}
 use Rattle.numbers.specs.Rounding.{cut}
 use Rattle.numbers.specs.Signed.{signed, readBack, readUnsigned}
 use Rattle.numbers.specs.Interval.{Within, within-pos, within-le, within-add, within-mul, within-quot, within-fits}
+use Rattle.rules.specs.Quantities.{stressLimits, clockLimits}
 use Rattle.table.proofs.Laws.{segmentLoad, segment-stress}
 use Rattle.table.proofs.load_between.Statement.{statement}
 use Rattle.table.proofs.load_between.Tie as tie
@@ -33,8 +34,8 @@ module _ (c : tie.After-load-change) where
   change-fits : SFits w64 change
   change-fits = within-fits tt (c .load-change .ensures .1)
 
-  product-size : Within (change *ℤ pos passed) 6_000_000_000_000_000_000
-  product-size = within-mul {n = 3_000_000_000} (c .load-change .ensures .1) (within-le (within-pos passed) (omega arith))
+  product-size : Within (change *ℤ pos passed) (stressLimits .most * clockLimits .most)
+  product-size = within-mul {n = clockLimits .most} (c .load-change .ensures .1) (within-le (within-pos passed) (omega arith))
 
   product-fits : SFits w64 (change *ℤ pos passed)
   product-fits = within-fits tt product-size
@@ -53,7 +54,7 @@ module _ (c : tie.After-cut) where
   abbrev part : ℤ
   part = cut (change s *ℤ pos (passed s)) (whole s)
 
-  part-size : Within part 6_000_000_000_000_000_000
+  part-size : Within part (stressLimits .most * clockLimits .most)
   part-size = within-quot (pos (whole s)) (product-size s)
 
   part-is : c .cut .result ≡ part
@@ -68,8 +69,8 @@ module _ (c : tie.After-cut) where
 
   sum-fits : SFits w64 (pos start +ℤ part)
   sum-fits =
-      within-fits {n = 6_000_000_002_000_000_000} tt
-      (within-add {m = 2_000_000_000} (within-le (within-pos start) (omega arith)) part-size)
+      within-fits {n = stressLimits .most + stressLimits .most * clockLimits .most} tt
+      (within-add {m = stressLimits .most} (within-le (within-pos start) (omega arith)) part-size)
 
   sum-is : pos start +ℤ part ≡ segmentLoad start end (passed s) (whole s)
   sum-is = ap (λ (z : ℤ). pos start +ℤ cut (z *ℤ pos (passed s)) (whole s)) (s .load-change .ensures .0)
@@ -89,8 +90,8 @@ sub-whole c = search needs
 cast-whole : tie.Need-cast-whole
 cast-whole c = search needs
 
-cast-result : tie.Need-cast-result
-cast-result c = search needs
+cast-t10 : tie.Need-cast-t10
+cast-t10 c = search needs
 
 mul-cut : tie.Need-mul-cut
 mul-cut c = simp (passed-is c, readBack (change-fits c)) (product-fits c)
@@ -100,12 +101,12 @@ cut-requires c κs =
     simp (passed-is c, whole-is c, readBack (change-fits c), readBack (product-fits c))
     (omega signed, within-le (product-size c) (lit≤ tt))
 
-add-result : tie.Need-add-result
-add-result c = simp (part-is c, start-is c, readBack (part-fits c)) (sum-fits c)
+add-t13 : tie.Need-add-t13
+add-t13 c = simp (part-is c, start-is c, readBack (part-fits c)) (sum-fits c)
 
 returns : tie.Need-returns
 returns c =
-    let stress = segment-stress (start c) (end c) (passed (s c)) (whole (s c)) (omega arith) (omega arith) 2_000_000_000 in
+    let stress = segment-stress (start c) (end c) (passed (s c)) (whole (s c)) (omega arith) (omega arith) (stressLimits .most) in
     simp (part-is c, start-is c, readBack (part-fits c), readBack (sum-fits c))
     (rw (sum-is c) (refl, stress (omega arith) (omega arith)))
 
@@ -118,8 +119,8 @@ load-between-spec =
     cast-passed
     sub-whole
     cast-whole
-    cast-result
+    cast-t10
     mul-cut
     cut-requires
-    add-result
+    add-t13
     returns)

@@ -6,6 +6,7 @@ use mir.Syntax.{w64}
 use mir.Val.{SFits, toZ}
 use Rattle.numbers.specs.Signed.{one-sided, sub-parts, readBack, readUnsigned}
 use Rattle.numbers.specs.Interval.{Within, intervals, within-fits}
+use Rattle.rules.specs.Quantities.{stressLimits}
 use Rattle.table.proofs.load_change.Statement.{statement}
 use Rattle.table.proofs.load_change.Tie as tie
 
@@ -19,7 +20,7 @@ module _ (s : tie.Start) where
   to : toZ w64 (s .args .load1) ≡ pos (s .args .load1)
   to = readUnsigned (s .args .load1) (omega arith)
 
-  size : Within change 2_000_000_000
+  size : Within change (stressLimits .most)
   size = omega (intervals, sub-parts (pos (s .args .load1)) (pos (s .args .load0)), one-sided change)
 
   fits : SFits w64 change

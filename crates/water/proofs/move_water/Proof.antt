@@ -9,8 +9,8 @@ use mathlib.Core.List.{List, _∷_}
 use mathlib.Core.Path.{_≡_, refl, sym, ap, _∙_}
 use mir.Syntax.{w64}
 use mir.Val.{SFits, ofZ, toZ}
-use Rattle.water.specs.Water.{newWater, Movable}
-use Rattle.water.proofs.WaterAt.{entering}
+use Rattle.water.specs.Water.{newWater, heightAfter, Movable}
+use Rattle.water.proofs.WaterAt.{entering, new-height}
 use Rattle.numbers.specs.Arrays.{filled}
 use Rattle.numbers.specs.Filled.{filled-zero, filled-store, filled-done, getD-filled-past}
 use Rattle.numbers.specs.Interval.{Within, within-fits}
@@ -20,7 +20,7 @@ use Rattle.water.proofs.move_water.Tie as tie
 
 abbrev Inv-loop : tie.InvT-loop
 Inv-loop n lowest above water₀ enters₀ j₀ water enters j =
-    (j ≤ n) × (toZ w64 enters ≡ getD (toZ w64 lowest ∷ above) j (pos 0)) × (water ≡ filled water₀ j (λ i. natAbs (newWater (toZ w64 lowest) above water₀ i)))
+    (j ≤ n) × (toZ w64 enters ≡ getD (toZ w64 lowest ∷ above) j (pos 0)) × (water ≡ filled water₀ j (heightAfter (toZ w64 lowest) above water₀))
 
 abbrev μ-loop : tie.MeasureT-loop
 μ-loop n lowest above water₀ enters₀ j₀ water enters j = n - j
@@ -42,7 +42,7 @@ module _ (l : tie.At-loop Inv-loop μ-loop) where
   water = s .args .water .now
 
   abbrev new : ℕ → ℕ
-  new i = natAbs (newWater lowest above water i)
+  new = heightAfter lowest above water
 
   abbrev movable : Movable (s .args .n) lowest above water
   movable = s .pre .1 .0
@@ -124,7 +124,7 @@ loop-again c =
       omega arith,
       rw (add-one (j l)) (readBack (above-fits l (omega arith))),
       rw (readBack (result-fits c))
-          (filled-store (water l) _ (j l) (new l) _ (omega (arith, s l .pre .1 .1 .1)) (moved l) (ap natAbs (result-is c (omega arith)))),
+          (filled-store (water l) _ (j l) (new l) _ (omega (arith, s l .pre .1 .1 .1)) (moved l) (ap natAbs (result-is c (omega arith)) ∙ new-height _ _ (s l .pre .1 .1 .0 (j l) (omega arith)))),
     )
 
 returns : tie.Need-returns Inv-loop μ-loop

@@ -1,17 +1,19 @@
+use Prim.Native.Nat.{ℕ, _+_}
 use native.Mathlib.Omega.{arith}
+use borrow.Author.Needs.{needs}
 use borrow.Author.Tests.{not-true, not-false}
 use mathlib.Core.Bool.{true}
 use mathlib.Core.Path.{_≡_, sym, _∙_}
-use Rattle.calls.specs.CallLaws.{answered, not-layer, refused-on-layer}
-use Rattle.calls.specs.Standing.{state-is}
-use Rattle.calls.specs.StepLaws.{step-length-outside, clock-outside}
+use Rattle.lent.specs.CallLaws.{in-numbers, not-layer, refused-on-layer}
+use Rattle.lent.specs.Standing.{state-is}
+use Rattle.lent.specs.StepLaws.{step-length-outside, clock-outside}
 use Rattle.numbers.specs.Searches.{passed}
-use Rattle.rules.proofs.Limits.{within-parts}
+use Rattle.rules.proofs.Limits.{within-parts, clock-tells}
 use Rattle.rules.specs.Quantities.{within, stepLimits}
 use Rattle.rules.specs.Record.{recordState, isLayer}
 use Rattle.rules.specs.declared.answers.Call.the-variants.{Step}
 use Rattle.rules.specs.declared.answers.Refusal.the-variants.{StepOutside}
-use borrow.Author.Needs.{needs}
+use Rattle.rules.specs.declared.record.Record.{Record}
 use Rattle.calls.proofs.step.take_step.Statement.{statement}
 use Rattle.calls.proofs.step.take_step.Tie as tie
 
@@ -21,19 +23,15 @@ is-layer-requires c κs = search needs
 refused-requires : tie.Need-refused-requires
 refused-requires c κs = search needs
 
--- the record is a layer
-standing : (c : tie.Else1) → isLayer (c .before .before .args .layer) ≡ true
-standing c = sym (c .before .is-layer .ensures) ∙ not-false _ (c .if1 .left)
-
--- the step keeps its limits
-in-limits : (c : tie.Else2) → within stepLimits (c .before .before .before .before .args .t) ≡ true
-in-limits c = sym (c .before .holds .ensures) ∙ not-false _ (c .if2 .left)
-
 returns : tie.Need-returns
 returns c =
     let s = c .before .before .before in
-    answered (c .refused .result) (c .refused .ensures .0) (c .refused .ensures .1) ∙
-    sym (not-layer (s .args .layer) (Step (s .args .t)) (sym (c .before .before .is-layer .ensures) ∙ not-true _ (c .before .if1 .taken)))
+    in-numbers (s .args .r) (Step (s .args .t))
+    (c .refused .ensures ∙ sym (not-layer (s .args .r) (Step (s .args .t)) (sym (c .before .before .is-layer .ensures) ∙ not-true _ (c .before .if1 .taken))))
+
+-- the record is a layer
+standing : (c : tie.Else1) → isLayer (c .before .before .args .r) ≡ true
+standing c = sym (c .before .is-layer .ensures) ∙ not-false _ (c .if1 .left)
 
 holds-requires : tie.Need-holds-requires
 holds-requires c κs = search needs
@@ -43,19 +41,37 @@ refused-requires-2 c κs = search needs
 
 returns-2 : tie.Need-returns-2
 returns-2 c =
-    let s = c .before .before .before .before .before in
-    answered (c .refused2 .result) (c .refused2 .ensures .0) (c .refused2 .ensures .1) ∙
-    sym (refused-on-layer (s .args .layer) (Step (s .args .t)) StepOutside (standing (c .before .before .before))
-    (step-length-outside _ _ (s .args .t) (sym (c .before .before .holds .ensures) ∙ not-true _ (c .before .if2 .taken))))
+    let e = c .before .before .before in
+    let s = e .before .before in
+    in-numbers (s .args .r) (Step (s .args .t))
+    (c .refused2 .ensures ∙
+    sym (refused-on-layer (s .args .r) (Step (s .args .t)) StepOutside (standing e)
+    (step-length-outside _ _ (s .args .t) (sym (c .before .before .holds .ensures) ∙ not-true _ (c .before .if2 .taken)))))
 
-add-holds : tie.Need-add-holds
-add-holds c =
-    let s = c .before .before .before .before .before .before in
-    let few = within-parts stepLimits (s .args .t) (passed (in-limits (c .before .before))) .1 in
-    omega (arith, few, state-is (s .args .layer) (standing (c .before .before .before .before)) .clock-most)
+-- the step keeps its limits
+module _ (c : tie.After-struct-known) where
+  abbrev e : tie.Else1
+  e = c .before .before .before .before
 
-holds-requires-2 : tie.Need-holds-requires-2
-holds-requires-2 c κs = search needs
+  abbrev s : tie.Start
+  s = e .before .before
+
+  abbrev clock : ℕ
+  clock = s .args .r .layer .progress .clock .0
+
+  in-limits : within stepLimits (s .args .t) ≡ true
+  in-limits = sym (c .before .before .before .holds .ensures) ∙ not-false _ (c .before .before .if2 .left)
+
+add-new : tie.Need-add-new
+add-new c =
+    let few = within-parts stepLimits (s c .args .t) (passed (in-limits c)) .1 in
+    omega (arith, few, state-is (s c .args .r) (standing (e c)) .clock-most)
+
+new-requires : tie.Need-new-requires
+new-requires c κs = search needs
+
+enum-told : tie.Need-enum-told
+enum-told c = search needs
 
 refused-requires-3 : tie.Need-refused-requires-3
 refused-requires-3 c κs = search needs
@@ -63,16 +79,27 @@ refused-requires-3 c κs = search needs
 returns-3 : tie.Need-returns-3
 unfolding recordState
 returns-3 c =
-    let s = c .before .before .before .before .before .before .before .before .before in
-    answered (c .refused3 .result) (c .refused3 .ensures .0) (c .refused3 .ensures .1) ∙
-    sym (refused-on-layer (s .args .layer) (Step (s .args .t)) StepOutside (standing (c .before .before .before .before .before .before .before))
-    (clock-outside _ _ (s .args .t) (in-limits (c .before .before .before .before .before)) (sym (c .before .before .holds2 .ensures) ∙ not-true _ (c .before .if3 .taken))))
+    let n = c .before .before .before in
+    let k = n .before in
+    let t = s k .args .t in
+    in-numbers (s k .args .r) (Step t)
+    (c .refused3 .ensures ∙
+    sym (refused-on-layer (s k .args .r) (Step t) StepOutside (standing (e k))
+    (clock-outside _ _ t (in-limits k) (clock-tells (clock k + t) (sym (c .before .enum-told .given .1) ∙ n .new .ensures)))))
+
+enum-told-2 : tie.Need-enum-told-2
+enum-told-2 c = search needs
 
 step-layer-requires : tie.Need-step-layer-requires
-step-layer-requires c κs = (standing (c .before .before .before .before .before .before), (in-limits (c .before .before .before .before), sym (c .before .holds2 .ensures) ∙ not-false _ (c .if3 .left)))
+step-layer-requires c κs =
+    let n = c .before .before in
+    let k = n .before in
+    (standing (e k), (in-limits k, clock-tells (clock k + s k .args .t) (sym (c .enum-told2 .given .1) ∙ n .new .ensures) .0))
 
 returns-4 : tie.Need-returns-4
-returns-4 c = search needs
+returns-4 c =
+    let k = c .before .before .before .before in
+    in-numbers (s k .args .r) (Step (s k .args .t)) (c .step-layer .ensures)
 
 pub take-step-spec : {M : Type 1} → statement M
 take-step-spec =
@@ -84,9 +111,11 @@ take-step-spec =
     holds-requires
     refused-requires-2
     returns-2
-    add-holds
-    holds-requires-2
+    add-new
+    new-requires
+    enum-told
     refused-requires-3
-    returns-3
+    enum-told-2
     step-layer-requires
+    returns-3
     returns-4)

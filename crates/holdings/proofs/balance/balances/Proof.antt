@@ -1,13 +1,15 @@
+use Prim.Native.Nat.{_*_}
 use native.Mathlib.Omega.{arith}
 use lib.IntN.{ℤ, pos, _+ℤ_, _-ℤ_}
-use mathlib.Core.Path.{_≡_, _∙_}
+use mathlib.Core.Path.{_≡_, sym, ap, subst, _∙_}
 use mir.Syntax.{w64}
-use mir.Val.{SFits, toZ}
+use mir.Val.{SFits}
 use Rattle.numbers.specs.Equality.{bits-equal, eqℤ→eq, eq→eqℤ}
 use Rattle.numbers.specs.Integers.{eqℤ}
 use Rattle.numbers.specs.Interval.{Within, within-sub, within-le, within-pos, within-fits}
 use Rattle.numbers.specs.Searches.{same-test}
-use Rattle.numbers.specs.Signed.{signed, readBack, readUnsigned, add-parts, sub-parts}
+use Rattle.numbers.specs.Signed.{signed, readBack, add-parts, sub-parts}
+use Rattle.rules.specs.Quantities.{startingWaterLimits}
 use borrow.Author.Needs.{needs}
 use Rattle.holdings.proofs.balance.balances.Statement.{statement}
 use Rattle.holdings.proofs.balance.balances.Tie as tie
@@ -21,39 +23,40 @@ across s l t b =
     (λ h. let e = eqℤ→eq s (l +ℤ t +ℤ b) h in
     eq→eqℤ (s -ℤ l -ℤ t) b (omega (signed, sub-parts s l, sub-parts (s -ℤ l) t, add-parts l t, add-parts (l +ℤ t) b)))
 
-module _ (c : tie.Start) where
-  starting-is : toZ w64 (c .args .starting) ≡ pos (c .args .starting)
-  starting-is = readUnsigned (c .args .starting) (omega arith)
+settlement-requires : tie.Need-settlement-requires
+settlement-requires c κs = search needs
 
-  left-is : toZ w64 (c .args .left) ≡ pos (c .args .left)
-  left-is = readUnsigned (c .args .left) (omega arith)
+module _ (c : tie.After-struct-told) where
+  abbrev s : tie.Start
+  s = c .before .before .before
 
-  gone : Within (pos (c .args .starting) -ℤ pos (c .args .left)) 256_000_000_000
-  gone = within-le (within-sub (within-pos (c .args .starting)) (within-pos (c .args .left))) (omega arith)
+  abbrev gone : ℤ
+  gone = pos (s .args .starting) -ℤ pos (s .args .left)
 
-  gone-fits : SFits w64 (pos (c .args .starting) -ℤ pos (c .args .left))
-  gone-fits = within-fits tt gone
+  gone-is : c .before .before .settlement .result ≡ gone
+  gone-is = c .before .before .settlement .ensures
 
-  out-fits : SFits w64 (pos (c .args .starting) -ℤ pos (c .args .left) -ℤ c .args .top-outflow)
-  out-fits = within-fits tt (within-sub gone (c .pre .1))
+  gone-fits : SFits w64 (c .before .before .settlement .result)
+  gone-fits = record { sfits = c .before .before .settlement .ok }
 
-cast-result : tie.Need-cast-result
-cast-result c = search needs
+  top-fits : SFits w64 (s .args .top-outflow .0)
+  top-fits = record { sfits = c .struct-told .given .0 .1 }
 
-cast-result-2 : tie.Need-cast-result-2
-cast-result-2 c = search needs
+  out-fits : SFits w64 (c .before .before .settlement .result -ℤ s .args .top-outflow .0)
+  out-fits =
+      let within : Within gone (2 * startingWaterLimits .most) = within-le (within-sub (within-pos (s .args .starting)) (within-pos (s .args .left))) (omega arith) in
+      subst (λ (z : ℤ). SFits w64 (z -ℤ s .args .top-outflow .0)) (sym gone-is) (within-fits tt (within-sub within (s .pre .1)))
 
 sub-result : tie.Need-sub-result
-sub-result c = simp (starting-is c, left-is c) (gone-fits c)
-
-sub-result-2 : tie.Need-sub-result-2
-sub-result-2 c = simp (starting-is c, left-is c, readBack (gone-fits c), readBack (c .fits .top-outflow)) (out-fits c)
+sub-result c = simp (readBack (gone-fits c), readBack {z = s c .args .top-outflow .0} (top-fits c)) (out-fits c)
 
 returns : tie.Need-returns
 returns c =
-    simp (starting-is c, left-is c, readBack (gone-fits c), readBack (c .fits .top-outflow))
-    (bits-equal _ (c .args .bottom-outflow) (out-fits c) (c .fits .bottom-outflow) ∙
-    across (pos (c .args .starting)) (pos (c .args .left)) (c .args .top-outflow) (c .args .bottom-outflow))
+    let t = c .before .before in
+    simp (readBack (gone-fits t), readBack {z = s t .args .top-outflow .0} (top-fits t))
+    (bits-equal _ (s t .args .bottom-outflow .0) (out-fits t) (record { sfits = c .struct-told2 .given .0 .1 }) ∙
+    ap (λ (z : ℤ). eqℤ (z -ℤ s t .args .top-outflow .0) (s t .args .bottom-outflow .0)) (gone-is t) ∙
+    across (pos (s t .args .starting)) (pos (s t .args .left)) (s t .args .top-outflow .0) (s t .args .bottom-outflow .0))
 
 pub balances-spec : {M : Type 1} → statement M
-balances-spec = tie.close (tie.spec cast-result cast-result-2 sub-result sub-result-2 returns)
+balances-spec = tie.close (tie.spec settlement-requires sub-result returns)

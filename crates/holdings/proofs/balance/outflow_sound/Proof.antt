@@ -10,6 +10,7 @@ use mir.Val.{SFits, toZ}
 use Rattle.numbers.specs.Interval.{intervals, within-sub, within-le, within-pos, within-fits}
 use Rattle.numbers.specs.Searches.{both, joined, same-test}
 use Rattle.numbers.specs.Signed.{readBack, readUnsigned, one-sided, sub-parts, natAbs-parts}
+use Rattle.rules.specs.Quantities.{clockLimits, outflowRate}
 use Rattle.rules.specs.Record.{outflowSound}
 use borrow.Author.Needs.{needs}
 use Rattle.holdings.proofs.balance.outflow_sound.Statement.{statement}
@@ -32,13 +33,17 @@ between z most =
 
 module _ (c : tie.Start) where
   abbrev most : ℕ
-  most = 2_300_000_000 * c .args .clock
+  most = outflowRate * c .args .clock .0
 
   most-is : toZ w64 most ≡ pos most
   most-is = readUnsigned most (omega arith)
 
   least-fits : SFits w64 (pos 0 -ℤ pos most)
-  least-fits = within-fits {n = 6_900_000_000_000_000_000} tt (within-le (within-sub (within-pos 0) (within-pos most)) (omega arith))
+  least-fits = within-fits {n = outflowRate * clockLimits .most} tt (within-le (within-sub (within-pos 0) (within-pos most)) (omega arith))
+
+-- the outflow is read from its bits
+outflow-fits : (c : tie.After-struct-told) → SFits w64 (c .before .before .before .args .outflow .0)
+outflow-fits c = record { sfits = c .struct-told .given .0 .1 }
 
 mul-most : tie.Need-mul-most
 mul-most c = search needs
@@ -47,23 +52,25 @@ cast-most : tie.Need-cast-most
 cast-most c = search needs
 
 sub-if1 : tie.Need-sub-if1
-sub-if1 c = simp (most-is c) (least-fits c)
+sub-if1 c = simp (most-is (c .before)) (least-fits (c .before))
 
 returns : tie.Need-returns
 unfolding outflowSound
 returns c =
-    let s = c .before in
-    let z = s .args .outflow in
-    let reaches = simp (most-is s, readBack (least-fits s), readBack (s .fits .outflow)) at (c .if1 .taken) in
-    simp (most-is s, readBack (s .fits .outflow)) (ap (λ (x : Bool). x && leZ z (pos (most s))) (sym reaches) ∙ between z (most s))
+    let t = c .before .before .before in
+    let s = t .before .before .before in
+    let z = s .args .outflow .0 in
+    let reaches = simp (most-is s, readBack (least-fits s), readBack {z = z} (outflow-fits t)) at (c .before .before .if1 .taken) in
+    simp (most-is s, readBack {z = z} (outflow-fits t)) (ap (λ (x : Bool). x && leZ z (pos (most s))) (sym reaches) ∙ between z (most s))
 
 returns-2 : tie.Need-returns-2
 unfolding outflowSound
 returns-2 c =
-    let s = c .before in
-    let z = s .args .outflow in
-    let below = simp (most-is s, readBack (least-fits s), readBack (s .fits .outflow)) at (c .if1 .left) in
-    simp (most-is s, readBack (least-fits s), readBack (s .fits .outflow))
+    let t = c .before in
+    let s = t .before .before .before in
+    let z = s .args .outflow .0 in
+    let below = simp (most-is s, readBack (least-fits s), readBack {z = z} (outflow-fits t)) at (c .if1 .left) in
+    simp (most-is s, readBack (least-fits s), readBack {z = z} (outflow-fits t))
     (below ∙ ap (λ (x : Bool). x && leZ z (pos (most s))) (sym below) ∙ between z (most s))
 
 pub outflow-sound-spec : {M : Type 1} → statement M

@@ -6,12 +6,13 @@ use mathlib.Core.Path.{_≡_, refl, ap, _∙_}
 use Rattle.numbers.specs.Arrays.{firstPlaces}
 use Rattle.numbers.specs.Filled.{first-length, first-at}
 use Rattle.numbers.specs.Sums.{sum, sum-suc}
+use Rattle.rules.specs.Quantities.{waterLimits}
 use Rattle.holdings.proofs.balance.total_water.Statement.{statement}
 use Rattle.holdings.proofs.balance.total_water.Tie as tie
 
 abbrev Inv-loop : tie.InvT-loop
 Inv-loop n water total₀ j₀ total j =
-    (j ≤ n) × (total ≤ 1_000_000_000 * j) × (total ≡ sum (take j (firstPlaces n water)))
+    (j ≤ n) × (total ≤ waterLimits .most * j) × (total ≡ sum (take j (firstPlaces n water)))
 
 abbrev μ-loop : tie.MeasureT-loop
 μ-loop n water total₀ j₀ total j = n - j

@@ -15,8 +15,9 @@ enum-told-2 c = search needs
 returns : tie.Need-returns
 unfolding closedAtZero
 returns c =
-    let s = c .before .before in
-    rw (c .enum-told .given .1) (bits-equal (s .args .level) (pos 0) (s .fits .level) (within-fits tt (within-pos 0)))
+    let t = c .before .before in
+    let level = t .before .before .args .level in
+    rw (t .enum-told .given .1) (bits-equal (level .0) (pos 0) (record { sfits = c .struct-told .given .0 .1 }) (within-fits tt (within-pos 0)))
 
 returns-2 : tie.Need-returns-2
 unfolding closedAtZero

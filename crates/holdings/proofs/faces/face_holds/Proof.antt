@@ -17,9 +17,10 @@ returns c = rw (c .enum-told .given .1)
 returns-2 : tie.Need-returns-2
 unfolding faceHolds
 returns-2 c =
-    let s = c .before .before .before .before .before in
-    let held = c .before .before .before .face .given .0 .0 .0 in
-    rw (c .before .before .before .face .given .1) (bits-equal held (s .args .held) (record { sfits = c .struct-told .given .0 .1 }) (s .fits .held))
+    let t = c .before .before in
+    let face = t .before .before .before .face .given in
+    let held = t .before .before .before .before .before .args .held in
+    rw (face .1) (bits-equal (face .0 .0 .0) (held .0) (record { sfits = t .struct-told .given .0 .1 }) (record { sfits = c .struct-told2 .given .0 .1 }))
 
 pub face-holds-spec : {M : Type 1} → statement M
 face-holds-spec = tie.close (tie.spec enum-told enum-known-face returns returns-2)

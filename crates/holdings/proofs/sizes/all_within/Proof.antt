@@ -8,40 +8,40 @@ use mathlib.Core.Path.{_≡_, sym, _∙_}
 use Rattle.numbers.specs.Arrays.{everyIndex, firstPlaces}
 use Rattle.numbers.specs.Indices.{restPasses, all-rest, index-fails, index-goes, index-ends, all-tabulate}
 use Rattle.numbers.specs.Lists.{all}
-use Rattle.rules.specs.Quantities.{within, from_to_}
+use Rattle.rules.specs.Quantities.{Limits, within, limitsOf}
 use Rattle.holdings.proofs.sizes.all_within.Statement.{statement}
 use Rattle.holdings.proofs.sizes.all_within.Tie as tie
 
 -- a test of the first places is one of every index
-listed : (n least most : ℕ) (numbers : List ℕ) →
-    all (within (from least to most)) (firstPlaces n numbers) ≡ everyIndex n (λ i. within (from least to most) (getD numbers i 0))
+listed : (n : ℕ) (limits : Limits) (numbers : List ℕ) →
+    all (within limits) (firstPlaces n numbers) ≡ everyIndex n (λ i. within limits (getD numbers i 0))
 unfolding firstPlaces
-listed n least most numbers = all-tabulate (within (from least to most)) n (λ i. getD numbers i 0)
+listed n limits numbers = all-tabulate (within limits) n (λ i. getD numbers i 0)
 
 abbrev Inv-loop : tie.InvT-loop
-Inv-loop n least most numbers j₀ j =
-    (j ≤ n) × (restPasses n (λ i. within (from least to most) (getD numbers i 0)) j ≡ everyIndex n (λ i. within (from least to most) (getD numbers i 0)))
+Inv-loop n kind numbers j₀ j =
+    (j ≤ n) × (restPasses n (λ i. within (limitsOf kind) (getD numbers i 0)) j ≡ everyIndex n (λ i. within (limitsOf kind) (getD numbers i 0)))
 
 abbrev μ-loop : tie.MeasureT-loop
-μ-loop n least most numbers j₀ j = n - j
+μ-loop n kind numbers j₀ j = n - j
 
 loop-holds : tie.Need-loop-holds Inv-loop μ-loop
 loop-holds c = (omega arith, all-rest _ _)
 
-mul-within : tie.Need-mul-within Inv-loop μ-loop
-mul-within c = omega arith
+mul-keeps : tie.Need-mul-keeps Inv-loop μ-loop
+mul-keeps c = omega arith
 
-element-copy-out-within : tie.Need-element-copy-out-within Inv-loop μ-loop
-element-copy-out-within c = omega arith
+element-copy-out-keeps : tie.Need-element-copy-out-keeps Inv-loop μ-loop
+element-copy-out-keeps c = omega arith
 
-within-requires : tie.Need-within-requires Inv-loop μ-loop
-within-requires c κs = search needs
+keeps-requires : tie.Need-keeps-requires Inv-loop μ-loop
+keeps-requires c κs = search needs
 
 returns : tie.Need-returns Inv-loop μ-loop
 returns c =
     let l = c .before .before .before .before in
     let s = l .before in
-    index-fails (s .args .n) (λ i. within (from s .args .least to s .args .most) (getD (s .args .numbers .now) i 0)) (l .loop .j) (l .loop .inv .1) (omega arith) (sym (c .before .within .ensures) ∙ not-true _ (c .if1 .taken)) ∙ sym (listed _ _ _ _)
+    index-fails (s .args .n) (λ i. within (limitsOf (s .args .kind)) (getD (s .args .numbers .now) i 0)) (l .loop .j) (l .loop .inv .1) (omega arith) (sym (c .before .keeps .ensures) ∙ not-true _ (c .if1 .taken)) ∙ sym (listed _ _ _)
 
 add-j : tie.Need-add-j Inv-loop μ-loop
 add-j c = omega arith
@@ -53,13 +53,13 @@ loop-again : tie.Need-loop-again Inv-loop μ-loop
 loop-again c =
     let l = c .before .before .before .before in
     let s = l .before in
-    (omega arith, index-goes (s .args .n) (λ i. within (from s .args .least to s .args .most) (getD (s .args .numbers .now) i 0)) (l .loop .j) (l .loop .inv .1) (omega arith) (sym (c .before .within .ensures) ∙ not-false _ (c .if1 .left)))
+    (omega arith, index-goes (s .args .n) (λ i. within (limitsOf (s .args .kind)) (getD (s .args .numbers .now) i 0)) (l .loop .j) (l .loop .inv .1) (omega arith) (sym (c .before .keeps .ensures) ∙ not-false _ (c .if1 .left)))
 
 returns-2 : tie.Need-returns-2 Inv-loop μ-loop
 returns-2 c =
     let l = c .before in
     let s = l .before in
-    index-ends (s .args .n) (λ i. within (from s .args .least to s .args .most) (getD (s .args .numbers .now) i 0)) (l .loop .j) (l .loop .inv .1) (omega arith) ∙ sym (listed _ _ _ _)
+    index-ends (s .args .n) (λ i. within (limitsOf (s .args .kind)) (getD (s .args .numbers .now) i 0)) (l .loop .j) (l .loop .inv .1) (omega arith) ∙ sym (listed _ _ _)
 
 pub all-within-spec : {M : Type 1} → statement M
 all-within-spec =
@@ -68,9 +68,9 @@ all-within-spec =
     Inv-loop
     μ-loop
     loop-holds
-    mul-within
-    element-copy-out-within
-    within-requires
+    mul-keeps
+    element-copy-out-keeps
+    keeps-requires
     returns
     add-j
     loop-less

@@ -1,4 +1,3 @@
-use Rattle.numbers.specs.Signed.{readBack}
 use Rattle.rules.specs.Record.{sizesSound}
 use borrow.Author.Needs.{needs}
 use Rattle.holdings.proofs.sizes.sizes_sound.Statement.{statement}
@@ -22,7 +21,6 @@ all-within-requires-2 c κs = search needs
 returns : tie.Need-returns
 unfolding sizesSound
 returns c site top bottom face solids =
-    let s = c .before .before .before .before .before .before in
     rw (
       c .before .before .before .before .is-level .ensures,
       c .before .before .before .is-level2 .ensures,
@@ -33,7 +31,6 @@ returns c site top bottom face solids =
       bottom,
       face,
       solids,
-      readBack {z = s .args .bottom-level .0} (record { sfits = c .before .before .before .before .before .struct-told .given .0 .1 }),
     )
 
 pub sizes-sound-spec : {M : Type 1} → statement M

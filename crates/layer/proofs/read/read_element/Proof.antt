@@ -3,11 +3,11 @@ use lib.IntN.{pos, _+ℤ_, _-ℤ_}
 use mathlib.Core.Path.{_≡_, ap, _∙_}
 use Rattle.numbers.specs.Rounding.{ceil}
 use Rattle.numbers.specs.Interval.{Within, intervals}
-use Rattle.numbers.specs.Signed.{readBack, one-sided}
-use Rattle.rules.specs.Quantities.{stressLimits}
+use Rattle.numbers.specs.Signed.{one-sided}
+use Rattle.rules.specs.Quantities.{stressLimits, pressure}
 use Rattle.rules.specs.Curve.{points, curveAt, valueOf}
 use Rattle.rules.specs.Layer.{effectiveStress, hydraulicConductivity, excessPressure, resistance}
-use Rattle.curves.proofs.SmoothCurves.{compressibility-smooth, conductivity-smooth}
+use Rattle.curves.proofs.SmoothCurves.{conductivity-smooth}
 use Rattle.layer.specs.Soil.{Soil, OnSoil}
 use Rattle.layer.proofs.ReadAt.{water-most, stress-most, conductivity-range}
 use borrow.Author.Needs.{needs}
@@ -18,23 +18,24 @@ module _ (c : tie.Start) where
   abbrev soil : Soil (c .args .m) (c .args .void .now) (c .args .stress .now) (c .args .n) (c .args .conductivity-void .now) (c .args .conductivity .now)
   soil = c .pre .0
 
-  abbrev on : OnSoil (c .args .m) (c .args .void .now) (c .args .stress .now) (c .args .load) (c .args .burden) (c .args .solids) (c .args .water)
+  abbrev on : OnSoil (c .args .m) (c .args .void .now) (c .args .stress .now) (c .args .load .0) (c .args .burden) (c .args .solids) (c .args .water)
   on = c .pre .1
 
   most : c .args .water ≤ 1_000_000_000
   most = water-most _ _ _ _ _ _ soil _ _ _ _ on
 
-  load-within : Within (c .args .load) (stressLimits .most)
-  load-within = let b = on .load-between in omega (intervals, one-sided (c .args .load))
+  load-within : Within (c .args .load .0) (stressLimits .most)
+  load-within = let b = on .load-between in omega (intervals, one-sided (c .args .load .0))
+
+effective-stress-requires : tie.Need-effective-stress-requires
+effective-stress-requires c κs =
+    ((on c .solids-positive, most c), ((soil c .compressibility-few, soil c .compressibility-many), soil c .compressibility-sound))
 
 void-ratio-requires : tie.Need-void-ratio-requires
-void-ratio-requires c κs = (c .pre .1 .solids-positive, most c)
+void-ratio-requires c κs = let s = c .before in (on s .solids-positive, most s)
 
 read-requires : tie.Need-read-requires
-read-requires c κs = let s = c .before in ((soil s .compressibility-few, soil s .compressibility-many), compressibility-smooth _ _ _ (soil s .compressibility-sound))
-
-read-requires-2 : tie.Need-read-requires-2
-read-requires-2 c κs = let s = c .before .before in ((soil s .conductivity-few, soil s .conductivity-many), conductivity-smooth _ _ _ _ (soil s .conductivity-sound))
+read-requires c κs = let s = c .before .before in ((soil s .conductivity-few, soil s .conductivity-many), conductivity-smooth _ _ _ _ (soil s .conductivity-sound))
 
 value-of-requires : tie.Need-value-of-requires
 value-of-requires c κs = search needs
@@ -42,15 +43,12 @@ value-of-requires c κs = search needs
 -- the values read
 stress-is : (c : tie.After-value-of) → let s = c .before .before .before .before in
     c .value-of .result ≡ valueOf (effectiveStress (points (s .args .m) (s .args .void .now) (s .args .stress .now)) (s .args .solids) (s .args .water))
-unfolding effectiveStress
-stress-is c =
-    let e = c .before .before .before .void-ratio .ensures in
-    c .value-of .ensures ∙ ap valueOf (c .before .before .read .ensures .0 ∙ ap (curveAt (points _ _ _)) e)
+stress-is c = c .value-of .ensures ∙ ap valueOf (c .before .before .before .effective-stress .ensures .0)
 
 excess-pressure-requires : tie.Need-excess-pressure-requires
 excess-pressure-requires c κs =
     let s = c .before .before .before .before in
-    simp (readBack (s .fits .load)) (load-within s, (on s .burden-most, rw (stress-is c) (stress-most _ _ _ _ _ _ (soil s) _ _ _ _ (on s))))
+    (load-within s, (on s .burden-most, rw (stress-is c) (stress-most _ _ _ _ _ _ (soil s) _ _ _ _ (on s))))
 
 value-of-requires-2 : tie.Need-value-of-requires-2
 value-of-requires-2 c κs = search needs
@@ -59,8 +57,8 @@ conductivity-is : (c : tie.After-value-of2) → let s = c .before .before .befor
     c .value-of2 .result ≡ valueOf (hydraulicConductivity (points (s .args .n) (s .args .conductivity-void .now) (s .args .conductivity .now)) (s .args .solids) (s .args .water))
 unfolding hydraulicConductivity
 conductivity-is c =
-    let e = c .before .before .before .before .before .void-ratio .ensures in
-    c .value-of2 .ensures ∙ ap valueOf (c .before .before .before .read2 .ensures .0 ∙ ap (curveAt (points _ _ _)) e)
+    let e = c .before .before .before .before .void-ratio .ensures in
+    c .value-of2 .ensures ∙ ap valueOf (c .before .before .before .read .ensures .0 ∙ ap (curveAt (points _ _ _)) e)
 
 resistance-requires : tie.Need-resistance-requires
 resistance-requires c κs =
@@ -70,23 +68,22 @@ resistance-requires c κs =
 returns : tie.Need-returns
 unfolding excessPressure resistance
 returns c =
-    let s = c .before .before .before .before .before .before .before in
-    let p = c .before .before .excess-pressure in (
+    let s = c .before .before .before .before .before .before .before in (
       (
-        readBack {z = p .result} (record { sfits = p .ok }) ∙ (simp (readBack (s .fits .load)) at (p .ensures)) ∙
-            ap (λ (σ : ℕ). s .args .load +ℤ pos (s .args .burden) -ℤ pos σ) (stress-is (c .before .before .before)),
+        c .before .before .excess-pressure .ensures ∙
+            ap (λ (σ : ℕ). pressure (s .args .load .0 +ℤ pos (s .args .burden) -ℤ pos σ)) (stress-is (c .before .before .before)),
         c .resistance .ensures ∙ ap (ceil (4_905 * (s .args .solids + s .args .water))) (conductivity-is (c .before)),
       ),
-      (c .before .before .before .before .before .read .ensures .1, c .before .before .before .before .read2 .ensures .1),
+      (c .before .before .before .before .before .before .effective-stress .ensures .1, c .before .before .before .before .read .ensures .1),
     )
 
 pub read-element-spec : {M : Type 1} → statement M
 read-element-spec =
     tie.close
     (tie.spec
+    effective-stress-requires
     void-ratio-requires
     read-requires
-    read-requires-2
     value-of-requires
     excess-pressure-requires
     value-of-requires-2

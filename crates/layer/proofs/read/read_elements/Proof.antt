@@ -1,27 +1,29 @@
 use Prim.Native.Nat.{_-_, _≤_, _<_}
-use mathlib.Core.Path.{_≡_, sym, _∙_}
-use mir.Syntax.{w64}
-use mir.Val.{toZ}
+use mathlib.Core.Path.{_≡_, sym, ap, _∙_}
+use Rattle.layer.proofs.SegmentsAt.{segments-none, segments-store}
+use Rattle.layer.specs.Segments.{Segments}
 use Rattle.layer.specs.Soil.{excessAt, resistanceAt}
 use Rattle.numbers.specs.Arrays.{filled}
 use Rattle.numbers.specs.Filled.{filled-zero, filled-store, filled-done}
 use Rattle.numbers.specs.Signed.{readBack}
 use Rattle.rules.specs.Curve.{points}
+use Rattle.rules.specs.declared.quantities.Pressure.{Pressure}
 use native.Mathlib.Omega.{arith}
 use Rattle.layer.proofs.read.read_elements.Statement.{statement}
 use Rattle.layer.proofs.read.read_elements.Tie as tie
 
 abbrev Inv-loop : tie.InvT-loop
 Inv-loop count load burden solids water m void stress n conductivity-void conductivity stress-segment₀ conductivity-segment₀ excess₀ resistance₀ j₀ stress-segment conductivity-segment excess resistance j =
-    (j ≤ count) × (excess ≡ filled excess₀ j (excessAt (points m void stress) (toZ w64 load) burden solids water)) ×
-    (resistance ≡ filled resistance₀ j (resistanceAt (points n conductivity-void conductivity) solids water))
+    (j ≤ count) × (excess ≡ filled excess₀ j (excessAt (points m void stress) (load .0) burden solids water)) ×
+    (resistance ≡ filled resistance₀ j (resistanceAt (points n conductivity-void conductivity) solids water)) ×
+    Segments j m stress-segment₀ stress-segment × Segments j n conductivity-segment₀ conductivity-segment
 
 abbrev μ-loop : tie.MeasureT-loop
 μ-loop count load burden solids water m void stress n conductivity-void conductivity stress-segment₀ conductivity-segment₀ excess₀ resistance₀ j₀ stress-segment conductivity-segment excess resistance j =
     count - j
 
 loop-holds : tie.Need-loop-holds Inv-loop μ-loop
-loop-holds c = (omega arith, sym (filled-zero _ _), sym (filled-zero _ _))
+loop-holds c = (omega arith, sym (filled-zero _ _), sym (filled-zero _ _), segments-none, segments-none)
 
 mul-read-element : tie.Need-mul-read-element Inv-loop μ-loop
 mul-read-element c = omega arith
@@ -61,7 +63,7 @@ below c = (omega arith, c .before .before .before .before .before .before .befor
 read-element-requires : tie.Need-read-element-requires Inv-loop μ-loop
 read-element-requires c κs =
     let s = c .before .before .before .before .before .before .before in
-    (s .pre .1 .0, simp (readBack (s .fits .load)) (s .pre .1 .1 .0 (c .before .before .before .before .before .before .loop .j) (omega arith)))
+    (s .pre .1 .0, s .pre .1 .1 .0 (c .before .before .before .before .before .before .loop .j) (omega arith))
 
 mul-pressure : tie.Need-mul-pressure Inv-loop μ-loop
 mul-pressure c = omega arith
@@ -97,17 +99,23 @@ loop-again : tie.Need-loop-again Inv-loop μ-loop
 loop-again c =
     let s = c .before .before .before .before .before .before .before .before .before in
     let l = c .before .before .before .before .before .before .before .before in
-    let read = c .before .read-element in (
-      omega (arith, below (c .before .before)),
-      filled-store _ _ _ _ _ (omega (arith, below (c .before .before), s .pre .1 .1 .1 .0)) (l .loop .inv .1) (readBack {z = read .result .excess} (record { sfits = c .struct-told .given .0 .1 }) ∙ read .ensures .0 .0),
-      filled-store _ _ _ _ _ (omega (arith, below (c .before .before), s .pre .1 .1 .1 .1)) (l .loop .inv .2) (read .ensures .0 .1),
+    let read = c .before .read-element in
+    let room = below (c .before .before) in
+    let long = s .pre .1 .1 .1 in (
+      omega (arith, room),
+      filled-store _ _ _ _ _ (omega (arith, room, long)) (l .loop .inv .1)
+          (readBack {z = read .result .excess .0} (record { sfits = c .struct-told .given .0 .1 .1 .0 .1 }) ∙ ap (λ (p : Pressure). p .0) (read .ensures .0 .0)),
+      filled-store _ _ _ _ _ (omega (arith, room, long)) (l .loop .inv .2) (read .ensures .0 .1),
+      segments-store (l .loop .inv .3) _ (omega (arith, room, long)) (read .ensures .1 .0),
+      segments-store (l .loop .inv .4) _ (omega (arith, room, long)) (read .ensures .1 .1),
     )
 
 returns : tie.Need-returns Inv-loop μ-loop
 returns c =
-    let s = c .before .before in (
-      filled-done _ _ _ _ _ (simp (readBack (s .fits .load)) at (c .before .loop .inv .1)) (omega arith),
-      filled-done _ _ _ _ _ (c .before .loop .inv .2) (omega arith),
+    let inv = c .before .loop .inv in
+    let full : c .before .loop .j ≡ c .before .before .args .count = omega arith in (
+      filled-done _ _ _ _ _ (inv .1) full,
+      (filled-done _ _ _ _ _ (inv .2) full, (rw full at (inv .3), rw full at (inv .4))),
     )
 
 pub read-elements-spec : {M : Type 1} → statement M

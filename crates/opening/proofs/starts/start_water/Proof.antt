@@ -1,84 +1,109 @@
-use borrow.Author.Needs.{needs}
-use mathlib.Core.Bool.{true}
-use mathlib.Core.Path.{_≡_, refl}
-use Rattle.numbers.specs.Arrays.{zeros}
-use Rattle.opening.proofs.FieldLaws.{kept-header}
-use Rattle.opening.proofs.Starting.{burden-most, curve-sound, given-water, load-most, resting-places, resting-water, solids-kept, water-long}
-use Rattle.opening.specs.Causes.{describedAnswer}
-use Rattle.opening.specs.Lent.{descriptionOf}
-use Rattle.opening.specs.declared.causes.Checked.the-variants.{Sound}
-use Rattle.rules.specs.Job.{Description, givenWater, headerKept}
+use native.Mathlib.Omega.{arith}
+use borrow.Author.Tests.{not-true, not-false}
+use Prim.Native.Nat.{ℕ, _≤_}
+use lib.Dec.{eqb}
+use lib.ListN.{length}
+use mathlib.Core.Bool.{Bool}
+use mathlib.Core.List.{List}
+use mathlib.Core.Option.{Option, none, some}
+use mathlib.Core.Path.{_≡_, sym, ap, _∙_}
+use Rattle.numbers.specs.Arrays.{firstPlaces}
+use Rattle.numbers.specs.Lists.{all}
+use Rattle.opening.proofs.Starting.{given-found, given-left, resting-found, resting-long, resting-most, resting-left, cleared-left, dry-given}
+use Rattle.opening.specs.Accepting.{Starting, waterStarted}
+use Rattle.rules.specs.Curve.{Point, points}
+use Rattle.rules.specs.Layer.{Site}
+use Rattle.rules.specs.Start.{startWater}
+use Rattle.start.specs.Rest.{allOrNone}
 use Rattle.opening.proofs.starts.start_water.Statement.{statement}
 use Rattle.opening.proofs.starts.start_water.Tie as tie
 
 module _ (s : tie.Start) where
-  -- the description that is lent
-  abbrev d : Description
-  d = descriptionOf (s .args .header) (s .args .solids .now) (s .args .water .now) (s .args .compressibility-stress .now)
-      (s .args .compressibility-void .now) (s .args .conductivity-void .now) (s .args .conductivity .now) (s .args .table-time .now)
-      (s .args .table-load .now)
+  abbrev curve : List Point
+  curve = points (s .args .m) (s .args .void .now) (s .args .stress .now)
 
-  abbrev header : headerKept d ≡ true
-  header = s .pre .0 .0
+  -- the water of the start is found
+  abbrev Finds : Option (List ℕ) → Type 0
+  Finds water = (site : Site) → Starting site (s .args .n) (s .args .solids .now) (s .args .burden .now) curve →
+      startWater site (s .args .start) (firstPlaces (s .args .n) (s .args .water .now)) (s .args .load) ≡ water
 
-  abbrev sound : describedAnswer d ≡ Sound
-  sound = s .pre .0 .1
+  abbrev waterLeft : Option (List ℕ) → List ℕ
+  waterLeft water = waterStarted water (s .args .water .now)
+
+  few : s .args .n ≤ length (s .args .water .now)
+  few = omega (arith, s .pre .0 .0, s .pre .1 .1 .1 .1 .0)
 
 all-on-curve-requires : tie.Need-all-on-curve-requires
 all-on-curve-requires c κs =
-    let s = c .before .before .before in
-    let k = kept-header (d s) (header s) in (
-      k .elements-kept .most,
-      (
-        solids-kept (d s) (header s) (sound s),
-        ((k .compressibility-kept .least, k .compressibility-kept .most), curve-sound (d s) (header s) (sound s)),
-      ),
-    )
+    let p = c .before .before .pre in
+    (p .0 .0, ((λ j h. (p .1 .1 .0 j h .0, p .1 .1 .0 j h .2)), ((p .1 .1 .1 .0 .0, p .1 .1 .1 .0 .1), p .1 .1 .1 .0 .2)))
 
 returns : tie.Need-returns
-unfolding givenWater
 returns c =
     let t = c .before .before in
-    let s = t .before .before in
-    (given-water (d s) (header s) (sound s) (t .if1 .taken) (c .all-on-curve .ensures) refl, λ _. s .pre .1)
-
-burdens-requires : tie.Need-burdens-requires
-burdens-requires c κs =
-    let s = c .before .before .before in
-    let k = kept-header (d s) (header s) in
-    (k .elements-kept .most, ((k .gravity-kept .least, k .gravity-kept .most), ((λ j h. solids-kept (d s) (header s) (sound s) j h .1), refl)))
-
-element-copy-out-resting-waters : tie.Need-element-copy-out-resting-waters
-element-copy-out-resting-waters c = search needs
-
-resting-waters-requires : tie.Need-resting-waters-requires
-unfolding zeros
-resting-waters-requires c κs =
-    let b = c .before .before .before in
-    let s = b .before .before .before .before in
-    let k = kept-header (d s) (header s) in (
-      k .elements-kept .most,
+    let s = t .before in
+    let start : Finds s (allOrNone (c .all-on-curve .result) (firstPlaces (s .args .n) (s .args .water .now))) =
+    λ site held. given-found held _ _ _ (t .if1 .taken) (c .all-on-curve .ensures) in (
+      start,
       (
-        load-most (d s) (header s) (sound s),
-        (
-          burden-most (d s) (header s) (sound s) _ (b .burdens .ensures),
-          (
-            solids-kept (d s) (header s) (sound s),
-            ((k .compressibility-kept .least, k .compressibility-kept .most), (curve-sound (d s) (header s) (sound s), water-long (d s) (header s) (sound s) (s .pre .1))),
-          ),
-        ),
+        (λ site held. given-left _ _ (few s) (c .all-on-curve .result) ∙ ap (waterLeft s) (sym (start site held))),
+        λ j h. s .pre .1 .1 .0 j h .2,
       ),
     )
 
+resting-waters-requires : tie.Need-resting-waters-requires
+resting-waters-requires c κs =
+    let p = c .before .before .pre in
+    (p .0 .0, (p .0 .1, (p .1 .0, ((λ j h. (p .1 .1 .0 j h .0, p .1 .1 .0 j h .1)), ((p .1 .1 .1 .0 .0, p .1 .1 .1 .0 .1), (p .1 .1 .1 .0 .2, p .1 .1 .1 .1 .0))))))
+
+-- what the heights that are put are
+module _ (c : tie.After-resting-waters) where
+  abbrev s₁ : tie.Start
+  s₁ = c .before .before .before
+
+  abbrev after : List ℕ
+  after = c .resting-waters .last .1 .1 .1 .1 .1 .1 .1 .0
+
+  rests : Finds s₁ (allOrNone (c .resting-waters .result) (firstPlaces (s₁ .args .n) after))
+  rests site held = resting-found held _ _ _ (c .before .before .if1 .left) ∙ c .resting-waters .ensures .0 site (held .curve-held)
+
+  rests-by : {all-rest : Bool} → c .resting-waters .result ≡ all-rest → Finds s₁ (allOrNone all-rest (firstPlaces (s₁ .args .n) after))
+  rests-by e site held = rests site held ∙ ap (λ (b : Bool). allOrNone b (firstPlaces (s₁ .args .n) after)) e
+
+clear-requires : tie.Need-clear-requires
+clear-requires c κs =
+    let r = c .before .before in
+    let s = s₁ r in
+    (s .pre .0 .0, resting-long _ _ (few s) _ _ _ _ _ (r .resting-waters .ensures .1) ∙ s .pre .1 .1 .1 .1 .0)
+
 returns-2 : tie.Need-returns-2
-unfolding zeros
+unfolding allOrNone waterStarted
 returns-2 c =
-    let b = c .before .before .before .before in
-    let e = b .before .before in
-    let s = e .before .before in
-    let rests = c .resting-waters .ensures in (
-      resting-water (d s) (header s) (sound s) _ (b .burdens .ensures) (e .if1 .left) _ _ (rests .0) refl,
-      λ found. resting-places (d s) (header s) (sound s) _ (b .burdens .ensures) (e .if1 .left) _ _ (rests .0) found (s .pre .1) (rests .1),
+    let t = c .before .before in
+    let r = t .before in
+    let s = s₁ r in
+    let none-found : Finds s none = rests-by r (not-true (r .resting-waters .result) (t .if2 .taken)) in
+    let dry = dry-given (s .args .start) (all (λ w. eqb w 0) (firstPlaces (s .args .n) (s .args .water .now))) (r .before .before .if1 .left) (s .pre .1 .1 .1 .1 .1) in
+    let kept : c .clear .last .1 .0 ≡ s .args .water .now =
+    c .clear .ensures ∙ cleared-left _ _ (few s) _ _ _ _ (after r) (r .resting-waters .ensures .1) dry in (
+      none-found,
+      ((λ site held. kept ∙ ap (waterLeft s) (sym (none-found site held))), λ j h. rw kept (s .pre .1 .1 .0 j h .2)),
+    )
+
+returns-3 : tie.Need-returns-3
+unfolding allOrNone waterStarted
+returns-3 c =
+    let r = c .before in
+    let s = s₁ r in
+    let all-found : Finds s (some (firstPlaces (s .args .n) (after r))) = rests-by r (not-false (r .resting-waters .result) (c .if2 .left)) in (
+      all-found,
+      (
+        (λ site held.
+            resting-left _ _ (few s) _ _ _ _ _ (r .resting-waters .ensures .1) site (held .curve-held)
+            (sym (resting-found held _ _ _ (r .before .before .if1 .left)) ∙ all-found site held) ∙
+            ap (waterLeft s) (sym (all-found site held))),
+        resting-most _ _ (few s) _ _ _ _ _ (r .resting-waters .ensures .1) (λ j h. s .pre .1 .1 .0 j h .2),
+      ),
     )
 
 pub start-water-spec : {M : Type 1} → statement M
@@ -87,7 +112,7 @@ start-water-spec =
     (tie.spec
     all-on-curve-requires
     returns
-    burdens-requires
-    element-copy-out-resting-waters
     resting-waters-requires
-    returns-2)
+    clear-requires
+    returns-2
+    returns-3)

@@ -5,7 +5,8 @@ use mathlib.Core.Path.{_≡_, refl, sym, _∙_}
 use Rattle.numbers.specs.Lists.{all}
 use Rattle.rules.specs.Curve.{points}
 use Rattle.rules.proofs.Points.{all-fails, all-goes, all-ends}
-use Rattle.points.specs.Checks.{limitsOf, pointKept}
+use Rattle.rules.specs.Quantities.{limitsOf}
+use Rattle.points.specs.Checks.{pointKept}
 use native.Mathlib.Omega.{arith}
 use borrow.Author.Needs.{needs}
 use Rattle.points.proofs.checks.points_kept.Statement.{statement}

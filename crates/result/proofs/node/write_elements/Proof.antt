@@ -1,16 +1,14 @@
-use Prim.Native.Nat.{ℕ, _*_, _-_, _≤_}
+use Prim.Native.Nat.{ℕ, _+_, _*_, _-_, _≤_}
 use lib.ListN.{length, getD}
 use lib.Seq.{sets, length-sets}
 use mathlib.Core.Path.{_≡_, refl, ap, _∙_}
-use mir.Syntax.{w64}
-use mir.Val.{toZ}
 use Rattle.layer.specs.Soil.{OnSoil}
 use Rattle.numbers.specs.Arrays.{tabulate, firstPlaces}
-use Rattle.numbers.specs.Signed.{readBack}
 use Rattle.numbers.specs.Sums.{sum}
-use Rattle.result.specs.Elements.{heightOf, height-more, elements-stored, elements-done}
+use Rattle.result.specs.Elements.{mostHeight, heightOf, height-more, elements-stored, elements-done}
 use Rattle.result.specs.Ranges.{water-most}
 use Rattle.rules.specs.Curve.{points}
+use Rattle.rules.specs.Quantities.{solidsLimits, waterLimits}
 use Rattle.rules.specs.Result.{elementsBytes}
 use native.Mathlib.Omega.{arith}
 use Rattle.result.proofs.node.write_elements.Statement.{statement}
@@ -18,8 +16,8 @@ use Rattle.result.proofs.node.write_elements.Tie as tie
 
 abbrev Inv-loop : tie.InvT-loop
 Inv-loop n load top-level burden solids water m void stress out₀ below₀ j₀ out below j =
-    (j ≤ n) × (out ≡ sets out₀ 56 (elementsBytes (points m void stress) (top-level .0) (toZ w64 load) 0 (firstPlaces j burden) (firstPlaces j solids) (firstPlaces j water))) ×
-    (below ≡ heightOf (firstPlaces j solids) (firstPlaces j water)) × (below ≤ 1_100_000_000 * j)
+    (j ≤ n) × (out ≡ sets out₀ 56 (elementsBytes (points m void stress) (top-level .0) (load .0) 0 (firstPlaces j burden) (firstPlaces j solids) (firstPlaces j water))) ×
+    (below ≡ heightOf (firstPlaces j solids) (firstPlaces j water)) × (below ≤ (solidsLimits .most + waterLimits .most) * j)
 
 abbrev μ-loop : tie.MeasureT-loop
 μ-loop n load top-level burden solids water m void stress out₀ below₀ j₀ out below j =
@@ -65,20 +63,19 @@ module _ (c : tie.In-loop Inv-loop μ-loop) where
   abbrev j : ℕ
   j = c .before .loop .j
 
-  on : OnSoil (s .args .m) (s .args .void .now) (s .args .stress .now) (s .args .load) (getD (s .args .burden .now) j 0) (getD (s .args .solids .now) j 0) (getD (s .args .water .now) j 0)
+  on : OnSoil (s .args .m) (s .args .void .now) (s .args .stress .now) (s .args .load .0) (getD (s .args .burden .now) j 0) (getD (s .args .solids .now) j 0) (getD (s .args .water .now) j 0)
   on = s .pre .1 .1 .1 .1 j (omega arith)
 
-  heights : (getD (s .args .solids .now) j 0 ≤ 100_000_000) × (getD (s .args .water .now) j 0 ≤ 1_000_000_000)
+  heights : (getD (s .args .solids .now) j 0 ≤ solidsLimits .most) × (getD (s .args .water .now) j 0 ≤ waterLimits .most)
   heights = (on .solids-most, water-most _ _ _ (s .pre .1 .1 .1 .0) _ _ _ _ on)
 
-  below-most : c .before .loop .below ≤ 140_800_000_000
+  below-most : c .before .loop .below ≤ mostHeight
   below-most = let h = s .pre .0 .0 in omega arith
 
 write-element-requires : tie.Need-write-element-requires Inv-loop μ-loop
 write-element-requires c κs =
     let l = c .before .before .before .before in
     let many = s l .pre .0 .1 in
-    simp (readBack (s l .fits .load))
     (omega (arith, room (l .before)), ((below-most l, s l .pre .1 .0), (s l .pre .1 .1 .0, (s l .pre .1 .1 .1 .0, on l))))
 
 mul-below : tie.Need-mul-below Inv-loop μ-loop
@@ -121,8 +118,7 @@ same-length c = room (c .before)
 
 returns : tie.Need-returns Inv-loop μ-loop
 returns c =
-    let s = c .before .before .before in
-    elements-done _ _ _ _ _ _ _ _ _ _ (simp (readBack (s .fits .load)) at (c .before .loop .inv .1)) (omega arith)
+    elements-done _ _ _ _ _ _ _ _ _ _ (c .before .loop .inv .1) (omega arith)
 
 pub write-elements-spec : {M : Type 1} → statement M
 write-elements-spec =

@@ -9,9 +9,12 @@ use borrow.Author.Needs.{needs}
 use Rattle.result.proofs.node.write_words.Statement.{statement}
 use Rattle.result.proofs.node.write_words.Tie as tie
 
-module _ (c : tie.Start) where
-  total-fits : SFits w64 (c .args .pore +ℤ pos (c .args .effective))
-  total-fits = within-fits tt (within-add (c .pre .1 .1) (within-le (within-pos (c .args .effective)) (c .pre .1 .0)))
+module _ (s : tie.Start) where
+  pore-fits : SFits w64 (s .args .pore .0)
+  pore-fits = within-fits tt (s .pre .1 .1)
+
+  total-fits : SFits w64 (s .args .pore .0 +ℤ pos (s .args .effective))
+  total-fits = within-fits tt (within-add (s .pre .1 .1) (within-le (within-pos (s .args .effective)) (s .pre .1 .0)))
 
 put-word-requires : tie.Need-put-word-requires
 put-word-requires c κs = search needs
@@ -36,8 +39,8 @@ cast-put-signed c = search needs
 
 add-put-signed-2 : tie.Need-add-put-signed-2
 add-put-signed-2 c =
-    let s = c .before .before .before .before .before .before .before .before .before .before .before .before .before .before in
-    simp (readBack (s .fits .pore), readUnsigned (s .args .effective) (omega arith)) (total-fits s)
+    let s = c .before .before .before .before .before .before .before .before .before .before .before .before .before .before .before .before in
+    simp (readBack (pore-fits s), readUnsigned (s .args .effective) (omega arith)) (total-fits s)
 
 put-signed-requires : tie.Need-put-signed-requires
 put-signed-requires c κs = search needs
@@ -54,14 +57,14 @@ same-length c = search needs
 returns : tie.Need-returns
 returns c =
     let fifth = c .before .before in
-    let fourth = fifth .before .before .before .before in
-    let third = fourth .before .before .before .before in
+    let fourth = fifth .before .before .before .before .before in
+    let third = fourth .before .before .before .before .before .before in
     let second = third .before .before .before .before in
     let first = second .before .before .before .before in
     let s = first .before .before .before in
     words-stored _ _ _ _ _ _ _ _ _ _ _ (first .put-word .ensures) (second .put-word2 .ensures) (third .put-word3 .ensures)
-    (simp (readBack (s .fits .pore), readUnsigned (s .args .effective) (omega arith), readBack (total-fits s)) at (fourth .put-signed .ensures))
-    (simp (readBack (s .fits .pore)) at (fifth .put-signed2 .ensures))
+    (simp (readBack (pore-fits s), readUnsigned (s .args .effective) (omega arith), readBack (total-fits s)) at (fourth .put-signed .ensures))
+    (simp (readBack (pore-fits s)) at (fifth .put-signed2 .ensures))
 
 pub write-words-spec : {M : Type 1} → statement M
 write-words-spec =

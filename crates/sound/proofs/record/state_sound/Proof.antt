@@ -1,202 +1,223 @@
-use Prim.Native.Nat.{_≤_}
+use Prim.Native.Nat.{ℕ, _≤_}
 use native.Mathlib.Omega.{arith}
+use borrow.Author.Needs.{needs}
 use borrow.Author.Tests.{not-true, not-false}
 use lib.IntN.{pos, _+ℤ_}
-use mathlib.Core.Bool.{Bool, true, _&&_}
+use mathlib.Core.Bool.{Bool, true, false, _&&_}
 use mathlib.Core.List.{map}
-use mathlib.Core.Path.{_≡_, refl, sym, _∙_}
-use mir.Syntax.{w64}
-use mir.Val.{SFits}
+use mathlib.Core.Path.{_≡_, refl, sym, ap, _∙_}
+use Rattle.laws.specs.SiteFacts.{SiteFacts, site-facts}
+use Rattle.laws.specs.StateFacts.{state-by, outflow-bound}
+use Rattle.numbers.specs.Arrays.{firstPlaces}
 use Rattle.numbers.specs.Integers.{eqℤ}
-use Rattle.numbers.specs.Interval.{Within, within-le}
-use Rattle.numbers.specs.Searches.{passed}
+use Rattle.numbers.specs.Interval.{within-le}
+use Rattle.numbers.specs.Searches.{passed, both, is-true}
 use Rattle.numbers.specs.Sums.{sum}
-use Rattle.numbers.specs.Signed.{readBack}
-use Rattle.rules.proofs.Limits.{within-parts}
+use Rattle.rules.proofs.Limits.{within-parts, clock-tells}
 use Rattle.rules.specs.Quantities.{within, withinℤ, stressLimits, clockLimits, startingWaterLimits}
 use Rattle.rules.specs.Record.{recordSite, recordState, outflowSound, stateSound}
 use Rattle.rules.specs.Step.{allOnCurve}
+use Rattle.rules.specs.declared.quantities.Clock.{Clock}
 use Rattle.rules.specs.declared.record.Record.{Record}
-use Rattle.sound.specs.SiteFacts.{site-facts}
-use Rattle.sound.specs.StateFacts.{state-by, outflow-bound}
-use borrow.Author.Needs.{needs}
 use Rattle.sound.proofs.record.state_sound.Statement.{statement}
 use Rattle.sound.proofs.record.state_sound.Tie as tie
 
 -- what each test told
 module _ (c : tie.After-all-on-curve) where
-  abbrev layer : Record
-  layer = c .before .before .before .before .before .before .before .before .before .before .args .t1
+  abbrev start : tie.Start
+  start = c .before .before .before .before .before .before .before .before .before .before .before .before
 
-  on-is : c .all-on-curve .result ≡ allOnCurve ((recordSite layer) .compressibility) ((recordSite layer) .solids) (map pos ((recordState layer) .water))
+  abbrev r : Record
+  r = start .args .t1
+
+  facts : SiteFacts r
+  facts = site-facts r (start .pre)
+
+  on-is : c .all-on-curve .result ≡ allOnCurve ((recordSite r) .compressibility) ((recordSite r) .solids) (map pos ((recordState r) .water))
   unfolding recordSite recordState
   on-is = c .all-on-curve .ensures
 
 all-on-curve-requires : tie.Need-all-on-curve-requires
 all-on-curve-requires c κs =
-    let s = c .before .before .before .before .before .before .before .before .before in
+    let s = c .before .before .before .before .before .before .before .before .before .before .before in
     let facts = site-facts (s .args .t1) (s .pre) in (
       facts .header .elements-kept .most,
       (
-        (λ j h. (omega (arith, facts .sizes .solids-least j h), facts .sizes .solids-most j h)),
+        (λ j h. (omega (arith, facts .sizes .solids-least j h), facts .sizes .water-most j h)),
         ((facts .header .compressibility-kept .least, facts .header .compressibility-kept .most), facts .compressibility),
       ),
     )
 
 returns : tie.Need-returns
-returns c = let f = c .before in sym (state-by (layer f) (sym (on-is f) ∙ not-true _ (c .if1 .taken)) refl refl refl refl refl refl)
+returns c = let f = c .before in sym (state-by (r f) (sym (on-is f) ∙ not-true _ (c .if1 .taken)) refl refl refl refl refl refl)
+
+is-stress-requires : tie.Need-is-stress-requires
+is-stress-requires c κs = search needs
 
 module _ (c : tie.After-is-stress) where
   abbrev f₁ : tie.After-all-on-curve
   f₁ = c .before .before
 
-  abbrev layer₁ : Record
-  layer₁ = layer f₁
+  abbrev r₁ : Record
+  r₁ = r f₁
 
-  on-true : allOnCurve ((recordSite layer₁) .compressibility) ((recordSite layer₁) .solids) (map pos ((recordState layer₁) .water)) ≡ true
+  on-true : allOnCurve ((recordSite r₁) .compressibility) ((recordSite r₁) .solids) (map pos ((recordState r₁) .water)) ≡ true
   on-true = sym (on-is f₁) ∙ not-false _ (c .before .if1 .left)
 
-  load-is : c .is-stress .result ≡ withinℤ stressLimits ((recordState layer₁) .load)
+  load-is : c .is-stress .result ≡ withinℤ stressLimits ((recordState r₁) .load)
   unfolding recordState
   load-is = c .is-stress .ensures
 
-is-stress-requires : tie.Need-is-stress-requires
-is-stress-requires c κs = search needs
-
 returns-2 : tie.Need-returns-2
-returns-2 c = let f = c .before in sym (state-by (layer₁ f) (on-true f) (sym (load-is f) ∙ not-true _ (c .if2 .taken)) refl refl refl refl refl)
+returns-2 c = let f = c .before in sym (state-by (r₁ f) (on-true f) (sym (load-is f) ∙ not-true _ (c .if2 .taken)) refl refl refl refl refl)
+
+new-requires : tie.Need-new-requires
+new-requires c κs = search needs
+
+enum-known-now : tie.Need-enum-known-now
+enum-known-now c = search needs
+
+enum-told : tie.Need-enum-told
+enum-told c = search needs
+
+module _ (c : tie.After-new) where
+  abbrev f₂ : tie.After-is-stress
+  f₂ = c .before .before
+
+  abbrev r₂ : Record
+  r₂ = r₁ f₂
+
+  load-true : withinℤ stressLimits ((recordState r₂) .load) ≡ true
+  load-true = sym (load-is f₂) ∙ not-false _ (c .before .if2 .left)
+
+returns-3 : tie.Need-returns-3
+unfolding recordState
+returns-3 c =
+    let f = c .before .before in
+    sym (state-by (r₂ f) (on-true (f₂ f)) (load-true f) (clock-tells (r₂ f .layer .progress .clock .0) (sym (c .enum-told .given .1) ∙ f .new .ensures)) refl refl refl refl)
+
+-- the clock keeps its limits
+module _ (c : tie.After-known-told) where
+  abbrev f₃ : tie.After-new
+  f₃ = c .before .before .before
+
+  abbrev r₃ : Record
+  r₃ = r₂ f₃
+
+  abbrev now : Clock
+  now = c .before .now .given .0 .0
+
+  told : (within clockLimits (r₃ .layer .progress .clock .0) ≡ true) × (now ≡ record { 0 = r₃ .layer .progress .clock .0 })
+  told = clock-tells (r₃ .layer .progress .clock .0) (sym (c .before .now .given .1) ∙ f₃ .new .ensures)
+
+  clock-true : within clockLimits ((recordState r₃) .clock) ≡ true
+  unfolding recordState
+  clock-true = told .0
+
+  now-is : now .0 ≡ r₃ .layer .progress .clock .0
+  now-is = ap (λ (k : Clock). k .0) (told .1)
+
+  clock-most : r₃ .layer .progress .clock .0 ≤ clockLimits .most
+  clock-most = within-parts clockLimits (r₃ .layer .progress .clock .0) (passed (told .0)) .1
 
 holds-requires : tie.Need-holds-requires
 holds-requires c κs = search needs
 
 module _ (c : tie.After-holds) where
-  abbrev f₂ : tie.After-is-stress
-  f₂ = c .before .before
+  abbrev f₄ : tie.After-known-told
+  f₄ = c .before
 
-  abbrev layer₂ : Record
-  layer₂ = layer₁ f₂
+  abbrev r₄ : Record
+  r₄ = r₃ f₄
 
-  load-true : withinℤ stressLimits ((recordState layer₂) .load) ≡ true
-  load-true = sym (load-is f₂) ∙ not-false _ (c .before .if2 .left)
-
-  clock-is : c .holds .result ≡ within clockLimits ((recordState layer₂) .clock)
-  unfolding recordState
-  clock-is = c .holds .ensures
-
-returns-3 : tie.Need-returns-3
-returns-3 c =
-    let f = c .before in
-    sym (state-by (layer₂ f) (on-true (f₂ f)) (load-true f) (sym (clock-is f) ∙ not-true _ (c .if3 .taken)) refl refl refl refl)
-
-holds-requires-2 : tie.Need-holds-requires-2
-holds-requires-2 c κs = search needs
-
-module _ (c : tie.After-holds2) where
-  abbrev f₃ : tie.After-holds
-  f₃ = c .before .before
-
-  abbrev layer₃ : Record
-  layer₃ = layer₂ f₃
-
-  clock-true : within clockLimits ((recordState layer₃) .clock) ≡ true
-  clock-true = sym (clock-is f₃) ∙ not-false _ (c .before .if3 .left)
-
-  top-fits : SFits w64 (layer₃ .«top_outflow»)
-  top-fits = record { sfits = c .before .before .before .before .before .before .before .before .before .before .before .before .before .struct-told .given .1 .1 .1 .1 .1 .1 .1 .1 .1 .1 .1 .1 .1 .1 .1 .1 .1 .1 .1 .0 .1 }
-
-  bottom-fits : SFits w64 (layer₃ .«bottom_outflow»)
-  bottom-fits = record { sfits = c .before .before .before .before .before .before .before .before .before .before .before .before .struct-told2 .given .1 .1 .1 .1 .1 .1 .1 .1 .1 .1 .1 .1 .1 .1 .1 .1 .1 .1 .1 .1 .0 .1 }
-
-  clock-most : layer₃ .clock .0 ≤ 3_000_000_000
-  unfolding recordState
-  clock-most = within-parts clockLimits (layer₃ .clock .0) (passed clock-true) .1
+  starting-is : c .holds .result ≡ within startingWaterLimits (r₄ .layer .frame .«starting_water»)
+  starting-is = c .holds .ensures
 
 returns-4 : tie.Need-returns-4
 returns-4 c =
     let f = c .before in
-    let g = f₃ f in
-    sym (state-by (layer₃ f) (on-true (f₂ g)) (load-true g) (clock-true f) (sym (f .holds2 .ensures) ∙ not-true _ (c .if4 .taken)) refl refl refl)
+    let g = f₄ f in
+    sym (state-by (r₄ f) (on-true (f₂ (f₃ g))) (load-true (f₃ g)) (clock-true g) (sym (starting-is f) ∙ not-true _ (c .if3 .taken)) refl refl refl)
 
 outflow-sound-requires : tie.Need-outflow-sound-requires
-outflow-sound-requires c κs = clock-most (c .before)
+outflow-sound-requires c κs = let g = f₄ (c .before) in rw (now-is g) (clock-most g)
 
-module _ (c : tie.After-outflow-sound) where
-  abbrev f₄ : tie.After-holds2
-  f₄ = c .before .before
+outflow-sound-requires-2 : tie.Need-outflow-sound-requires-2
+outflow-sound-requires-2 c κs = let g = f₄ (c .before .before) in rw (now-is g) (clock-most g)
 
-  abbrev layer₄ : Record
-  layer₄ = layer₃ f₄
+module _ (c : tie.After-outflow-sound2) where
+  abbrev f₅ : tie.After-holds
+  f₅ = c .before .before .before
 
-  starting-true : within startingWaterLimits (layer₄ .«starting_water») ≡ true
-  starting-true = sym (f₄ .holds2 .ensures) ∙ not-false _ (c .before .if4 .left)
+  abbrev r₅ : Record
+  r₅ = r₄ f₅
 
-  top-is : c .outflow-sound .result ≡ outflowSound ((recordState layer₄) .topOutflow) ((recordState layer₄) .clock)
+  starting-true : within startingWaterLimits (r₅ .layer .frame .«starting_water») ≡ true
+  starting-true = sym (starting-is f₅) ∙ not-false _ (c .before .before .if3 .left)
+
+  top-is : c .before .outflow-sound .result ≡ outflowSound ((recordState r₅) .topOutflow) ((recordState r₅) .clock)
   unfolding recordState
-  top-is = simp (readBack {z = layer₄ .«top_outflow»} (top-fits f₄)) at (c .outflow-sound .ensures)
+  top-is = rw (now-is (f₄ f₅)) at (c .before .outflow-sound .ensures)
+
+  bottom-is : c .outflow-sound2 .result ≡ outflowSound ((recordState r₅) .bottomOutflow) ((recordState r₅) .clock)
+  unfolding recordState
+  bottom-is = rw (now-is (f₄ f₅)) at (c .outflow-sound2 .ensures)
+
+  abbrev balance : (left : ℕ) → Bool
+  balance left = let p = r₅ .layer .progress in eqℤ (pos (r₅ .layer .frame .«starting_water»)) (pos left +ℤ p .«top_outflow» .0 +ℤ p .«bottom_outflow» .0)
+
+  abbrev balanced : Bool
+  balanced = balance (sum (firstPlaces (r₅ .layer .frame .elements) (r₅ .layer .water)))
+
+  -- the state by its outflows, all before them being sound
+  by-outflows : {top bottom : Bool} → outflowSound ((recordState r₅) .topOutflow) ((recordState r₅) .clock) ≡ top →
+      outflowSound ((recordState r₅) .bottomOutflow) ((recordState r₅) .clock) ≡ bottom →
+      stateSound r₅ ≡ (top && bottom && balanced)
+  unfolding recordState
+  by-outflows p q = let g = f₄ f₅ in state-by r₅ (on-true (f₂ (f₃ g))) (load-true (f₃ g)) (clock-true g) starting-true p q refl
 
 returns-5 : tie.Need-returns-5
 returns-5 c =
     let f = c .before in
-    let g = f₃ (f₄ f) in
-    sym (state-by (layer₄ f) (on-true (f₂ g)) (load-true g) (clock-true (f₄ f)) (starting-true f) (sym (top-is f) ∙ not-true _ (c .if5 .taken)) refl refl)
+    let a = f .before .outflow-sound .result in
+    let b = f .outflow-sound2 .result in
+    let fails : (a && b) ≡ false = not-true (a && b) (c .if4 .taken) in
+    sym (by-outflows f (sym (top-is f)) (sym (bottom-is f)) ∙ ap (λ (x : Bool). x && balanced f) fails)
 
-outflow-sound-requires-2 : tie.Need-outflow-sound-requires-2
-outflow-sound-requires-2 c κs = clock-most (f₄ (c .before))
+module _ (c : tie.Else4) where
+  abbrev f₆ : tie.After-outflow-sound2
+  f₆ = c .before
 
-module _ (c : tie.After-outflow-sound2) where
-  abbrev f₅ : tie.After-outflow-sound
-  f₅ = c .before .before
+  abbrev r₆ : Record
+  r₆ = r₅ f₆
 
-  abbrev layer₅ : Record
-  layer₅ = layer₄ f₅
-
-  top-true : outflowSound ((recordState layer₅) .topOutflow) ((recordState layer₅) .clock) ≡ true
-  top-true = sym (top-is f₅) ∙ not-false _ (c .before .if5 .left)
-
-  bottom-is : c .outflow-sound2 .result ≡ outflowSound ((recordState layer₅) .bottomOutflow) ((recordState layer₅) .clock)
-  unfolding recordState
-  bottom-is = simp (readBack {z = layer₅ .«bottom_outflow»} (bottom-fits (f₄ f₅))) at (c .outflow-sound2 .ensures)
-
-  -- the state by its balance, all before it being sound
-  by-balance : {bottom balance : Bool} → outflowSound ((recordState layer₅) .bottomOutflow) ((recordState layer₅) .clock) ≡ bottom →
-      eqℤ (pos (layer₅ .«starting_water»)) (pos (sum ((recordState layer₅) .water)) +ℤ (recordState layer₅) .topOutflow +ℤ (recordState layer₅) .bottomOutflow) ≡ balance →
-      stateSound layer₅ ≡ (bottom && balance)
-  by-balance p q = let g = f₃ (f₄ f₅) in state-by layer₅ (on-true (f₂ g)) (load-true g) (clock-true (f₄ f₅)) (starting-true f₅) top-true p q
-
-returns-6 : tie.Need-returns-6
-returns-6 c = let f = c .before in sym (by-balance f (sym (bottom-is f) ∙ not-true _ (c .if6 .taken)) refl)
+  sounds : (outflowSound ((recordState r₆) .topOutflow) ((recordState r₆) .clock) ≡ true) × (outflowSound ((recordState r₆) .bottomOutflow) ((recordState r₆) .clock) ≡ true)
+  sounds =
+      let a = c .before .before .outflow-sound .result in
+      let b = c .before .outflow-sound2 .result in
+      let (top, bottom) = both a b (passed (not-false (a && b) (c .if4 .left))) in
+      (sym (top-is f₆) ∙ is-true a top, sym (bottom-is f₆) ∙ is-true b bottom)
 
 total-water-requires : tie.Need-total-water-requires
 total-water-requires c κs =
-    let s = c .before .before .before .before .before .before .before .before .before .before .before .before .before .before .before .before .before .before .before .before .before .before .before in
-    let facts = site-facts (s .args .t1) (s .pre) in
+    let facts = facts (f₁ (f₂ (f₃ (f₄ (f₅ (f₆ (c .before .before))))))) in
     (facts .header .elements-kept .most, facts .sizes .water-most)
 
-module _ (c : tie.After-total-water) where
-  abbrev f₆ : tie.After-outflow-sound2
-  f₆ = c .before .before .before .before
-
-  abbrev layer₆ : Record
-  layer₆ = layer₅ f₆
-
-  top-within : Within (layer₆ .«top_outflow») 6_900_000_000_000_000_000
-  unfolding recordState
-  top-within =
-      let most = clock-most (f₄ (f₅ f₆)) in
-      within-le (outflow-bound (layer₆ .«top_outflow») (layer₆ .clock .0) (top-true f₆)) (omega arith)
-
 balances-requires : tie.Need-balances-requires
-balances-requires c κs =
-    simp (readBack {z = layer₆ c .«top_outflow»} (top-fits (f₄ (f₅ (f₆ c)))))
-    ((within-parts startingWaterLimits (layer₆ c .«starting_water») (passed (starting-true (f₅ (f₆ c)))) .1, c .total-water .ensures .1), top-within c)
-
-returns-7 : tie.Need-returns-7
 unfolding recordState
-returns-7 c =
-    let t = c .before in
-    let g = f₄ (f₅ (f₆ t)) in
-    (simp (readBack {z = layer₆ t .«top_outflow»} (top-fits g), readBack {z = layer₆ t .«bottom_outflow»} (bottom-fits g), t .total-water .ensures .0) at (c .balances .ensures)) ∙
-    sym (by-balance (f₆ t) (sym (bottom-is (f₆ t)) ∙ not-false _ (t .before .before .before .if6 .left)) refl)
+balances-requires c κs =
+    let e = c .before .before .before in
+    let most = clock-most (f₄ (f₅ (f₆ e))) in
+    let p = r₆ e .layer .progress in (
+      (within-parts startingWaterLimits (r₆ e .layer .frame .«starting_water») (passed (starting-true (f₆ e))) .1, c .total-water .ensures .1),
+      within-le (outflow-bound (p .«top_outflow» .0) (p .clock .0) (sounds e .0)) (omega arith),
+    )
+
+returns-6 : tie.Need-returns-6
+returns-6 c =
+    let e = c .before .before .before .before in
+    let told : c .balances .result ≡ balance (f₆ e) (c .before .total-water .result) = c .balances .ensures in
+    told ∙ ap (balance (f₆ e)) (c .before .total-water .ensures .0) ∙ sym (by-outflows (f₆ e) (sounds e .0) (sounds e .1))
 
 pub state-sound-spec : {M : Type 1} → statement M
 state-sound-spec =
@@ -206,14 +227,15 @@ state-sound-spec =
     returns
     is-stress-requires
     returns-2
-    holds-requires
+    new-requires
+    enum-known-now
+    enum-told
     returns-3
-    holds-requires-2
+    holds-requires
     returns-4
     outflow-sound-requires
-    returns-5
     outflow-sound-requires-2
-    returns-6
+    returns-5
     total-water-requires
     balances-requires
-    returns-7)
+    returns-6)

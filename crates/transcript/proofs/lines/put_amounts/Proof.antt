@@ -29,16 +29,17 @@ unfolding amountsText
 returns c =
     let start = c .before .before in
     let bottom = start .before .before .before .before in
-    let top = bottom .before .before .before .before in
-    let clock = top .before .before .before .before in
+    let top = bottom .before .before .before .before .before in
+    let clock = top .before .before .before .before .before in
     let load = clock .before .before .before .before in
-    let s = load .before .before .before in
-    let loads = simp (readBack (s .fits .load)) at (load .put-signed-number .ensures .0) in
-    let tops = simp (readBack (s .fits .top)) at (top .put-signed-number2 .ensures .0) in
-    let bottoms = simp (readBack (s .fits .bottom)) at (bottom .put-signed-number3 .ensures .0) in (
-      put-put (put-put (put-put (put-put loads (clock .put-number .ensures .0)) tops) bottoms) (start .put-number2 .ensures .0),
-      omega arith,
-    )
+    let of = load .before .before .before .before .before .before .before .before .args .of in
+    let loads = readBack {z = of .load .0} (record { sfits = load .before .struct-told .given .0 .1 }) in
+    let tops = readBack {z = of .«top_outflow» .0} (record { sfits = top .before .struct-told2 .given .0 .1 }) in
+    let bottoms = readBack {z = of .«bottom_outflow» .0} (record { sfits = bottom .before .struct-told3 .given .0 .1 }) in
+    let two = put-put (simp loads at (load .put-signed-number .ensures .0)) (clock .put-number .ensures .0) in
+    let three = put-put two (simp tops at (top .put-signed-number2 .ensures .0)) in
+    let four = put-put three (simp bottoms at (bottom .put-signed-number3 .ensures .0)) in
+    (put-put four (start .put-number2 .ensures .0), omega arith)
 
 pub put-amounts-spec : {M : Type 1} → statement M
 put-amounts-spec =

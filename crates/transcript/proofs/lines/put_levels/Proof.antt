@@ -19,11 +19,13 @@ returns : tie.Need-returns
 unfolding levelsText
 returns c =
     let second = c .before .before in
-    let first = second .before .before .before .before in
-    let s = first .before .before .before in
-    let tops = simp (readBack (s .fits .top)) at (first .put-signed-number .ensures .0) in
-    let bottoms = simp (readBack (s .fits .bottom)) at (second .put-signed-number2 .ensures .0) in
-    (put-put tops bottoms, omega arith)
+    let told2 = second .before in
+    let first = told2 .before .before .before .before in
+    let told = first .before in
+    let args = told .before .before .before .args in
+    let top = readBack {z = args .top .0} (record { sfits = told .struct-told .given .0 .1 }) in
+    let bottom = readBack {z = args .bottom .0} (record { sfits = told2 .struct-told2 .given .0 .1 }) in
+    (put-put (simp top at (first .put-signed-number .ensures .0)) (simp bottom at (second .put-signed-number2 .ensures .0)), omega arith)
 
 pub put-levels-spec : {M : Type 1} → statement M
 put-levels-spec =

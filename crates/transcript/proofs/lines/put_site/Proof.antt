@@ -1,5 +1,4 @@
 use native.Mathlib.Omega.{arith}
-use Rattle.numbers.specs.Signed.{readBack}
 use Rattle.text.specs.Laws.{put-put}
 use Rattle.transcript.specs.Lines.{siteText}
 use borrow.Author.Needs.{needs}
@@ -25,14 +24,11 @@ returns : tie.Need-returns
 unfolding siteText
 returns c =
     let levels = c .before .before in
-    let bottom = levels .before .before .before .before .before .before in
+    let bottom = levels .before .before .before .before in
     let top = bottom .before .before .before .before in
-    let counts = top .before .before .before .before in
-    let s = counts .before .before .before .before .before in
-    let high = readBack {z = s .args .of .«top_level» .0} (record { sfits = levels .before .before .struct-told .given .0 .1 }) in
-    let low = readBack {z = s .args .of .«bottom_level» .0} (record { sfits = levels .before .struct-told2 .given .0 .1 }) in (
+    let counts = top .before .before .before .before in (
       put-put (put-put (put-put (counts .put-counts .ensures .0) (top .put-face .ensures .0)) (bottom .put-face2 .ensures .0))
-          (simp (high, low) at (levels .put-levels .ensures .0)),
+          (levels .put-levels .ensures .0),
       omega (arith, counts .put-counts .ensures .1, top .put-face .ensures .1, bottom .put-face2 .ensures .1, levels .put-levels .ensures .1),
     )
 

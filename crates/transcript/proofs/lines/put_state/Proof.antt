@@ -1,5 +1,4 @@
 use native.Mathlib.Omega.{arith}
-use Rattle.numbers.specs.Signed.{readBack}
 use Rattle.text.specs.Laws.{put-put}
 use Rattle.transcript.specs.Lines.{stateText}
 use borrow.Author.Needs.{needs}
@@ -19,12 +18,8 @@ returns : tie.Need-returns
 unfolding stateText
 returns c =
     let elements = c .before .before in
-    let amounts = elements .before .before .before .before .before in
-    let s = amounts .before .before .before .before .before .before .before .before .before in
-    let load = readBack {z = s .args .of .load .0} (record { sfits = amounts .before .before .before .struct-told .given .0 .1 }) in
-    let top = readBack {z = s .args .of .«top_outflow»} (record { sfits = amounts .before .before .struct-told2 .given .1 .1 .1 .1 .1 .1 .1 .1 .1 .1 .1 .1 .1 .1 .1 .1 .1 .1 .1 .0 .1 }) in
-    let bottom = readBack {z = s .args .of .«bottom_outflow»} (record { sfits = amounts .before .struct-told3 .given .1 .1 .1 .1 .1 .1 .1 .1 .1 .1 .1 .1 .1 .1 .1 .1 .1 .1 .1 .1 .0 .1 }) in (
-      put-put (simp (load, top, bottom) at (amounts .put-amounts .ensures .0)) (elements .put-elements .ensures .0),
+    let amounts = elements .before .before .before .before .before .before in (
+      put-put (amounts .put-amounts .ensures .0) (elements .put-elements .ensures .0),
       omega (arith, amounts .put-amounts .ensures .1, elements .put-elements .ensures .1),
     )
 

@@ -1,2 +1,0 @@
--- What sound sizes say.
-pub mod Sizes

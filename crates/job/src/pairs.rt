@@ -1,0 +1,45 @@
+// The pairs of a job.
+ghost use lib.ListN.{length};
+ghost use mathlib.Core.Bool.{true};
+ghost use mathlib.Core.Path.{_≡_};
+ghost use Rattle.job.specs.Pairs.{Blank, Pairs};
+ghost use Rattle.rules.specs.Job.{described, headerKept, jobLength};
+use crate::fields;
+use crate::fields::HEADER_LENGTH;
+use crate::fields::PAIR_LENGTH;
+use rules::job::Header;
+
+// Reads the pairs of a job that is refused for none of the causes 1 to 4 and has this header.
+pub fn read_pairs<'a>(
+    job: &'a [u8],
+    header: Header,
+    solids: &mut [u64; 128],
+    water: &mut [u64; 128],
+    compressibility_void: &mut [u64; 64],
+    compressibility_stress: &mut [u64; 64],
+    conductivity_void: &mut [u64; 64],
+    conductivity: &mut [u64; 64],
+    table_time: &mut [u64; 64],
+    table_load: &mut [u64; 64],
+)
+    requires { ⌜ header ≡ (described (now job)) .header ⌝ }
+    requires { ⌜ (headerKept header ≡ true) × (length (now job) ≡ jobLength header) ⌝ }
+    requires { ⌜ Blank (now solids) (now water) (now «compressibility_void») (now «compressibility_stress») (now «conductivity_void») (now conductivity) (now «table_time») (now «table_load») ⌝ }
+    ensures { λ _. ⌜ Pairs (described (now (job .entry))) (now (solids .exit)) (now (water .exit)) (now («compressibility_void» .exit)) (now («compressibility_stress» .exit)) (now («conductivity_void» .exit)) (now (conductivity .exit)) (now («table_time» .exit)) (now («table_load» .exit)) ⌝ }
+{
+    let n = header.elements;
+    let m = header.compressibility_points;
+    let k = header.conductivity_points;
+    let times = header.table_points;
+    let compressibility_at = HEADER_LENGTH + PAIR_LENGTH * n;
+    let conductivity_at = compressibility_at + PAIR_LENGTH * m;
+    let table_at = conductivity_at + PAIR_LENGTH * k;
+    fields::read_firsts(job, HEADER_LENGTH, n, solids);
+    fields::read_firsts(job, HEADER_LENGTH + 8, n, water);
+    fields::read_firsts(job, compressibility_at, m, compressibility_stress);
+    fields::read_firsts(job, compressibility_at + 8, m, compressibility_void);
+    fields::read_firsts(job, conductivity_at, k, conductivity_void);
+    fields::read_firsts(job, conductivity_at + 8, k, conductivity);
+    fields::read_firsts(job, table_at, times, table_time);
+    fields::read_firsts(job, table_at + 8, times, table_load);
+}

@@ -1,0 +1,141 @@
+-- What a step answers, by the tests that it passes, and the arrays that it works with.
+use Prim.Native.Nat.{ℕ, _+_, _≤_, _<_}
+use lib.Dec.{T}
+use lib.IntN.{ℤ, pos}
+use lib.ListN.{getD}
+use mathlib.Core.Bool.{Bool, true, false, not, _||_}
+use mathlib.Core.List.{List, [], _∷_}
+use mathlib.Core.Option.{Option, none, some}
+use native.Mathlib.Omega.{arith}
+use mathlib.Core.Path.{_≡_, refl, sym, ap, subst, _∙_}
+use Rattle.lent.specs.CallLaws.{on-layer, refused-on-layer}
+use Rattle.lent.specs.Progress.{refusedWith}
+use Rattle.lent.specs.Standing.{site-is, state-is, curve, counted, weighted, solid, burden, sensitivity, low, high, on-soil, on-soil-with, worked, shows, shows-with}
+use Rattle.laws.specs.Every.{every-tabulate}
+use Rattle.laws.specs.Excess.{excesses-within}
+use Rattle.laws.specs.Outflow.{OuterWithin, outflow-within}
+use Rattle.laws.specs.Steep.{steep-positive}
+use Rattle.layer.specs.Soil.{OnSoil}
+use Rattle.motion.specs.Turning.{Worked, Shows}
+use Rattle.numbers.specs.Arrays.{firstPlaces}
+use Rattle.numbers.specs.Filled.{first-length}
+use Rattle.numbers.specs.Interval.{Within}
+use Rattle.numbers.specs.Lists.{firstOr, lastOr}
+use Rattle.numbers.specs.Searches.{passed}
+use Rattle.laws.specs.Amid.{Between}
+use Rattle.rules.specs.Curve.{isOn, steepness}
+use Rattle.rules.specs.Layer.{Site, State, elements, effectiveStress}
+use Rattle.rules.specs.Calls.{called}
+use Rattle.rules.specs.declared.answers.Answered.{Answered}
+use Rattle.rules.specs.Outcome.{Outcome, refused, outcome}
+use Rattle.rules.specs.Quantities.{within, stepLimits, clockLimits, stressLimits}
+use Rattle.rules.specs.Record.{recordSite, recordState, isLayer}
+use Rattle.rules.specs.Refusals.{_if_, firstCause}
+use Rattle.rules.specs.Run.{stepTaken}
+use Rattle.rules.specs.Step.{upwardFlows, stressSlope, tooLong, leavesCurve, stepRefusal}
+use Rattle.rules.specs.declared.answers.Answer.the-variants.{Done, Refused}
+use Rattle.rules.specs.declared.answers.Call.the-variants.{Step}
+use Rattle.rules.specs.declared.answers.Refusal.{Refusal}
+use Rattle.rules.specs.declared.answers.Refusal.the-variants.{StepOutside, StepTooLong, StepOffCurve}
+use Rattle.rules.specs.declared.record.Record.{Record}
+
+-- ---- what a step answers
+
+module _ (site : Site) (s : State) (t : ℕ) where
+  by-refusal : (cause : Option Refusal) → stepRefusal site s t ≡ cause →
+      outcome site s (Step t) ≡ elim cause [ some cause ↦ refused cause | none ↦ record { answer = Done; events = stepTaken t ∷ [] } ]
+  unfolding outcome
+  by-refusal cause e =
+      ap (λ (c : Option Refusal). elim c as (λ _. Outcome) [ some x ↦ refused x | none ↦ record { answer = Done; events = stepTaken t ∷ [] } ]) e
+
+  -- the refusal by the tests of its causes
+  by-tests : {a b c d : Bool} → within stepLimits t ≡ a → within clockLimits (s.clock + t) ≡ b → tooLong site s t ≡ c → leavesCurve site s t ≡ d →
+      stepRefusal site s t ≡ firstCause ((StepOutside if (not a || not b)) ∷ (StepTooLong if c) ∷ (StepOffCurve if d) ∷ [])
+  unfolding stepRefusal
+  by-tests p q u v = rw (p, q, u, v) refl
+
+  pub step-length-outside : within stepLimits t ≡ false → outcome site s (Step t) ≡ refused StepOutside
+  unfolding firstCause
+  step-length-outside p = by-refusal (some StepOutside) (by-tests p refl refl refl)
+
+  pub clock-outside : within stepLimits t ≡ true → within clockLimits (s.clock + t) ≡ false → outcome site s (Step t) ≡ refused StepOutside
+  unfolding firstCause
+  clock-outside p q = by-refusal (some StepOutside) (by-tests p q refl refl)
+
+  module _ (p : within stepLimits t ≡ true) (q : within clockLimits (s.clock + t) ≡ true) where
+    pub step-too-long : tooLong site s t ≡ true → outcome site s (Step t) ≡ refused StepTooLong
+    unfolding firstCause
+    step-too-long u = by-refusal (some StepTooLong) (by-tests p q u refl)
+
+    pub step-off-curve : tooLong site s t ≡ false → leavesCurve site s t ≡ true → outcome site s (Step t) ≡ refused StepOffCurve
+    unfolding firstCause
+    step-off-curve u v = by-refusal (some StepOffCurve) (by-tests p q u v)
+
+    pub step-taken : tooLong site s t ≡ false → leavesCurve site s t ≡ false →
+        outcome site s (Step t) ≡ record { answer = Done; events = stepTaken t ∷ [] }
+    unfolding firstCause
+    step-taken u v = by-refusal none (by-tests p q u v)
+
+-- a step that is refused leaves the record
+pub step-refused : (r : Record) (t : ℕ) (cause : Refusal) → isLayer r ≡ true → (called r (Step t)) .answer ≡ Refused cause →
+    refusedWith cause r ≡ called r (Step t)
+unfolding refused
+step-refused r t cause is e = go (stepRefusal (recordSite r) (recordState r) t) refl
+  where
+    go : (found : Option Refusal) → stepRefusal (recordSite r) (recordState r) t ≡ found → refusedWith cause r ≡ called r (Step t)
+    go (some other) p =
+        let answers = refused-on-layer r (Step t) other is (by-refusal (recordSite r) (recordState r) t (some other) p) in
+        let same : other ≡ cause = cc (sym (ap (λ (a : Answered). a .answer) answers) ∙ e) in
+        sym (answers ∙ ap (λ (c : Refusal). refusedWith c r) same)
+    go none p =
+        let answers = on-layer r (Step t) _ is (by-refusal (recordSite r) (recordState r) t none p) in
+        let done : Done ≡ Refused cause = sym (ap (λ (a : Answered). a .answer) answers) ∙ e in
+        absurd (let z : _≡_ {A = ℕ} 0 1 = cc in omega arith)
+
+-- ---- the arrays of a layer
+
+module _ (r : Record) (is : isLayer r ≡ true) where
+  pub on-soil-as : {b : List ℕ} → b ≡ burden r is → (j : ℕ) → j < (r .layer .frame .elements) →
+      OnSoil (r .soil .counts .compressibility) (r .soil .«compressibility_void») (r .soil .«compressibility_stress») (r .layer .progress .load .0) (getD b j 0) (getD (r .layer .solids) j 0) (getD (r .layer .water) j 0)
+  on-soil-as e j h = rw e (on-soil r is j h)
+
+  pub on-soil-with-as : {b : List ℕ} (load : ℤ) (water : List ℕ) → b ≡ burden r is →
+      Between (pos 0) (pos (stressLimits .most)) load →
+      ((j : ℕ) → j < (r .layer .frame .elements) → isOn (effectiveStress (curve r is) (getD (r .layer .solids) j 0) (getD water j 0)) ≡ true) → (j : ℕ) → j < (r .layer .frame .elements) →
+      OnSoil (r .soil .counts .compressibility) (r .soil .«compressibility_void») (r .soil .«compressibility_stress») load (getD b j 0) (getD (r .layer .solids) j 0) (getD water j 0)
+  on-soil-with-as load water e limits on j h = rw e (on-soil-with r is load water limits on j h)
+
+  pub shows-with-as : {b : List ℕ} (s : State) (water : List ℕ) → b ≡ burden r is → s.water ≡ firstPlaces (r .layer .frame .elements) water →
+      Shows (recordSite r) s (r .layer .frame .elements) (r .layer .frame .top) (r .layer .frame .bottom) s.load b (r .layer .solids) water (r .soil .counts .compressibility) (r .soil .«compressibility_void»)
+      (r .soil .«compressibility_stress») (r .soil .counts .conductivity) (r .soil .«conductivity_void») (r .soil .conductivity)
+  shows-with-as s water e w = rw e (shows-with r is s water w)
+
+  pub worked-as : {c l h : List ℕ} {g : ℕ} → c ≡ sensitivity r is → l ≡ low r is →
+      h ≡ high r is → g ≡ steepness (curve r is) → Worked (r .layer .frame .elements) (curve r is) (r .layer .solids) c l h g
+  worked-as p q u v = rw (p, q, u, v) (worked r is)
+
+  pub shows-as : {b : List ℕ} → b ≡ burden r is →
+      Shows (recordSite r) (recordState r) (r .layer .frame .elements) (r .layer .frame .top) (r .layer .frame .bottom) (r .layer .progress .load .0) b (r .layer .solids) (r .layer .water) (r .soil .counts .compressibility) (r .soil .«compressibility_void»)
+      (r .soil .«compressibility_stress») (r .soil .counts .conductivity) (r .soil .«conductivity_void») (r .soil .conductivity)
+  shows-as e = rw e (shows r is)
+
+-- a bound holds for an equal number
+pub within-as : {a b : ℤ} {n : ℕ} → a ≡ b → Within b n → Within a n
+within-as e h = rw e h
+
+-- ---- the outer flows of a step that is not too long are in range
+
+pub outer-flows : (r : Record) (is : isLayer r ≡ true) (t : ℕ) → 1 ≤ t → tooLong (recordSite r) (recordState r) t ≡ false →
+    OuterWithin t (firstOr (pos 0) (upwardFlows (r .layer .frame .top) (r .layer .frame .bottom) t (elements (recordSite r) (recordState r)))) ×
+    OuterWithin t (lastOr (pos 0) (upwardFlows (r .layer .frame .top) (r .layer .frame .bottom) t (elements (recordSite r) (recordState r))))
+unfolding recordSite recordState firstPlaces stressSlope
+outer-flows r is t h short =
+    let n = (r .layer .frame .elements) in
+    outflow-within (recordSite r) (recordState r) t h
+    (steep-positive (curve r is) (worked r is .bounded .falls) (worked r is .bounded .two))
+    (every-tabulate (λ S. 0 < S) n (λ i. getD (r .layer .solids) i 0) (λ i l. solid r is i l .0))
+    (site-is r is .top-held) (site-is r is .bottom-held)
+    (excesses-within (recordSite r) (passed (site-is r is .compressibility)) (recordState r) (state-is r is .load-between) (weighted r is .1)
+    (every-tabulate (λ S. S ≤ 100_000_000) n (λ i. getD (r .layer .solids) i 0) (λ i l. solid r is i l .1))
+    (rw (first-length n (r .layer .solids)) (counted r is .1)))
+    (subst (λ (b : Bool). T (not b)) (sym short) tt)

@@ -1,0 +1,259 @@
+#!/usr/bin/env python3
+"""Tests of the mutants and their list, without the checker: `python3 test_mutants.py`. Quiet when all is well; exit
+status 1 when a test fails."""
+
+from __future__ import annotations
+
+import os
+import sys
+import tempfile
+import unittest
+from typing import List
+
+HERE = os.path.dirname(os.path.abspath(__file__))
+ROOT = os.path.dirname(HERE)
+sys.path.insert(0, HERE)
+
+import catalogue  # noqa: E402
+import checker  # noqa: E402
+from changes import Change, applied, changes_of  # noqa: E402
+from declared import Declared  # noqa: E402
+from literals import byte_literal, byte_of, with_number  # noqa: E402
+from source import Source, SourceError, read_source  # noqa: E402
+
+DECLARED = """\
+pub enum Face { Closed, Sealed, Drained(Pressure) }
+pub struct Pair { pub a: u64, pub b: u64, pub c: Face }
+pub fn put<'a>(out: &mut [u64], of: &'a [u64; 64], at: usize, n: u64, m: u64) {}
+"""
+
+CONTRACTS = """\
+// 1 + 2
+ghost use lib.ListN.{length};
+use rules::Face;
+
+const ROOM: usize = 56;
+
+impl Head {
+    pub const MOST: u64 = 200;
+
+    pub fn holds<'a>(n: u64, xs: &'a [u64; 64]) -> [u64; 2]
+        ghost { Record }
+        requires { λ layer. ⌜ n + 1 ≤ 2 ⌝ × record { a = 1; b = { 2 } } }
+        ensures { λ r. ⌜ r ≡ n ⌝ }
+    {
+        n + 3 // 4
+    }
+}
+
+fn main() {}
+"""
+
+
+def function(body: str) -> str:
+    return f"fn f(a: u64) -> u64\n    ensures {{ λ r. ⌜ r < a ⌝ }}\n{{\n{body}\n}}\n"
+
+
+def source_of(body: str) -> Source:
+    return read_source("crates/one/src/lib.rt", DECLARED + function(body))
+
+
+def changes(body: str, kind: str = "") -> List[Change]:
+    source = source_of(body)
+    return [change for change in changes_of(source, source.bodies[-1], Declared([source])) if kind in change.kind]
+
+
+def results(body: str, kind: str = "") -> List[str]:
+    """The bodies that the changes of a kind give."""
+    source = source_of(body)
+    texts = [applied(source, change) for change in changes(body, kind)]
+    return [text[text.index("⌝ }\n{\n") + 6 : -3] for text in texts]
+
+
+class Bodies(unittest.TestCase):
+    def test_only_bodies_and_constants_are_read(self) -> None:
+        source = read_source("a.rt", CONTRACTS)
+        self.assertEqual(["ROOM", "Head::MOST", "Head::holds", "main"], [body.name for body in source.bodies])
+        found = [source.between(body.first, body.last) for body in source.bodies if body.first < body.last]
+        self.assertEqual(["56", "200", "n + 3"], found)
+
+    def test_a_contract_changes_in_no_mutant(self) -> None:
+        source = read_source("a.rt", CONTRACTS)
+        for body in source.bodies:
+            for change in changes_of(source, body, Declared([source])):
+                text = applied(source, change)
+                self.assertIn("⌜ n + 1 ≤ 2 ⌝ × record { a = 1; b = { 2 } }", text)
+                self.assertTrue(text.startswith("// 1 + 2\n"))
+
+    def test_what_is_no_source_is_refused(self) -> None:
+        for text in ("fn f() { λ }", "fn f() { (] }", "fn f() {", "fn f() ensures { ⌜ ⌝ {}"):
+            with self.assertRaises(SourceError):
+                read_source("a.rt", text)
+
+    def test_every_function_of_the_crates_has_a_body_that_is_read(self) -> None:
+        for crate in catalogue.crate_names(ROOT):
+            for source in catalogue.sources_of(ROOT, crate):
+                named = sum(token.text == "fn" for token in source.tokens)
+                self.assertEqual(named, sum(not body.constant for body in source.bodies), source.path)
+
+
+class Changes(unittest.TestCase):
+    def test_operators(self) -> None:
+        self.assertEqual(["a - b"], results("a + b", "operator"))
+        self.assertEqual(["a <= b", "a > b"], results("a < b", "operator"))
+        self.assertEqual(["a || b != c", "a && b == c"], results("a && b != c", "operator"))
+        self.assertEqual(["a -= b;"], results("a += b;", "operator"))
+        self.assertEqual(["x", "y"], [result[-1] for result in results("!x", "operator") + results("-y", "operator")])
+        self.assertEqual(["(a) | b"], results("(a) & b", "operator"))
+
+    def test_references_are_no_operators(self) -> None:
+        self.assertEqual([], results("f(&a, &mut b, *c)", "operator"))
+        self.assertEqual([], results("return &a;", "operator"))
+
+    def test_numbers(self) -> None:
+        self.assertEqual(["6", "8"], results("7", "number"))
+        self.assertEqual(["1u64"], results("0u64", "number"))
+        self.assertEqual(["true"], results("false", "number"))
+        self.assertEqual([], results("a.0", "number"))
+        self.assertEqual("999_999", with_number("1_000_000", 999_999))
+        self.assertEqual("0x1_0001", with_number("0x1_0000", 0x1_0001))
+        self.assertEqual(["b'@'", "b'B'"], results("b'A'", "number"))
+        self.assertEqual((10, 39), (byte_of(r"b'\n'"), byte_of(r"b'\''")))
+        self.assertEqual(("11", "b'('"), (byte_literal(11), byte_literal(40)))
+
+    def test_a_constant_changes_only_in_its_numbers(self) -> None:
+        source = read_source("a.rt", "const A: u64 = 2 + 3;")
+        found = [applied(source, change)[15:-1] for change in changes_of(source, source.bodies[0], Declared([source]))]
+        self.assertEqual(["1 + 3", "3 + 3", "2 + 2", "2 + 4"], found)
+
+    def test_arguments(self) -> None:
+        self.assertEqual(["g(b, b)", "g(b, a)", "g(a, a)"], results("g(a, b)", "argument"))
+        self.assertEqual(["g(2, x + 1)"], results("g(x + 1, 2)", "argument"))
+        self.assertIn("g(\n    b,\n    a,\n)", results("g(\n    a,\n    b,\n)", "argument"))
+        self.assertEqual(["x[i + 1]"], results("x[i]", "argument"))
+        self.assertEqual([], results("x[i + 1]", "argument"))
+
+    def test_arguments_of_types_that_do_not_fit_stay(self) -> None:
+        self.assertEqual(
+            ["put(&b, &a, i + 1, 1, 2)", "put(&a, &b, i + 1, 2, 1)"], results("put(&a, &b, i + 1, 1, 2)", "argument")
+        )
+        self.assertEqual(
+            ["put(&a, &a, 2, 1, m + n)", "put(&a, &a, 1, m + n, 2)"], results("put(&a, &a, 1, 2, m + n)", "argument")
+        )
+
+    def test_fields(self) -> None:
+        self.assertEqual(["Pair { a: 2, b: 1 }"], results("Pair { a: 1, b: 2 }", "argument"))
+        self.assertEqual(["Pair { a: b, b: a, c }"], results("Pair { a, b, c }", "argument"))
+        self.assertEqual([], results("if a < MOST { g(a); }", "argument"))
+
+    def test_conditions(self) -> None:
+        self.assertEqual(["if !(a < b) { c } else { d }"], results("if a < b { c } else { d }", "branch"))
+        self.assertEqual(["while !(a < b) { }"], results("while a < b { }", "branch"))
+        self.assertEqual(["if false { return c; } d"], results("if !a { return c; } d", "branch"))
+        self.assertEqual([" d"], results("if let A(b) = c { return b; } d", "branch"))
+        self.assertEqual(["if a != b { c } else { d }"], results("if a == b { c } else { d }", "operator"))
+        self.assertEqual([], results("if a == b { c } else { d }", "branch"))
+
+    def test_arms(self) -> None:
+        two = "match a { Face::Closed => 1, _ => 2 }"
+        self.assertEqual(["match a { Face::Closed => 2, _ => 1 }"], results(two, "branch"))
+        self.assertEqual([], results("match a { Face::Closed => b, Face::Drained(c) => c }", "branch"))
+        self.assertEqual(["match a { A(c) => {}, B => 0 }"], results("match a { A(c) => x[i] = c, B => 0 }", "branch"))
+
+    def test_variants(self) -> None:
+        self.assertEqual(["Face::Sealed"], results("Face::Closed", "branch"))
+        self.assertEqual(["Face::Closed"], results("Face::Drained(p)", "branch"))
+        self.assertEqual([], results("if let Face::Closed = a { 1 } else { 2 }", "branch"))
+
+    def test_statements_go(self) -> None:
+        self.assertEqual([" b"], results("a += 1; b", "branch"))
+        self.assertEqual([" b"], results("g(a); b", "branch"))
+        self.assertEqual([], results("let a = g(b); a", "branch"))
+        self.assertIn("while a {  }", results("while a { x[i] = 1; }", "branch"))
+
+    def test_no_text_twice(self) -> None:
+        for crate in catalogue.crate_names(ROOT):
+            found = catalogue.all_mutants(ROOT, [crate])
+            self.assertEqual(len(found), len({(mutant.path, mutant.text) for mutant in found}))
+
+
+class Names(unittest.TestCase):
+    def mutants(self, text: str) -> List[catalogue.Mutant]:
+        with tempfile.TemporaryDirectory() as root:
+            os.makedirs(os.path.join(root, "crates", "one", "src"))
+            for path, content in (("crates.txt", "# ones\none: numbers\n"), ("crates/one/src/lib.rt", text)):
+                with open(os.path.join(root, path), "w", encoding="utf-8") as file:
+                    file.write(content)
+            return catalogue.all_mutants(root, catalogue.crate_names(root))
+
+    def test_names_stay_when_other_lines_change(self) -> None:
+        before = self.mutants(function("    a + 1"))
+        after = self.mutants("fn g() {}\n" + function("    let b = 2;\n    a + 1"))
+        self.assertLess({mutant.name for mutant in before}, {mutant.name for mutant in after})
+        self.assertNotEqual([mutant.line for mutant in before], [mutant.line for mutant in after][-len(before) :])
+
+    def test_names_differ(self) -> None:
+        found = self.mutants(function("    a + 1 + 1;\n    a + 1 + 1;"))
+        self.assertEqual(len(found), len({mutant.id for mutant in found}))
+        everything = catalogue.all_mutants(ROOT, catalogue.crate_names(ROOT))
+        self.assertEqual(len(everything), len({mutant.id for mutant in everything}))
+
+    def test_a_draw_is_even_and_the_same_for_a_seed(self) -> None:
+        found = self.mutants(function("    a + 1") + function("    a + 2 + 3 + 4 + 5").replace("fn f", "fn g"))
+        some = catalogue.drawn(found, 4, 1)
+        self.assertEqual(some, catalogue.drawn(found, 4, 1))
+        self.assertEqual(["f", "f", "g", "g"], [mutant.function for mutant in some])
+        self.assertEqual(found, catalogue.drawn(found, 1000, 7))
+        self.assertTrue(any(catalogue.drawn(found, 4, seed) != some for seed in range(2, 9)))
+
+
+class Lists(unittest.TestCase):
+    def test_the_list_names_mutants_that_are_there(self) -> None:
+        with open(os.path.join(HERE, "same_program.txt"), encoding="utf-8") as file:
+            listed = catalogue.read_list(file.read())
+        catalogue.check_list(listed, catalogue.all_mutants(ROOT, catalogue.crate_names(ROOT)))
+
+    def test_some_names_share_a_reason(self) -> None:
+        listed = catalogue.read_list("# of two\n1 a\n2 b\n    Nothing\n    reads it.\n\n3 c\n    Equal.\n")
+        self.assertEqual({"1 a": "Nothing reads it.", "2 b": "Nothing reads it.", "3 c": "Equal."}, listed)
+        self.assertEqual({}, catalogue.read_list("# none\n"))
+
+    def test_a_list_out_of_form_is_refused(self) -> None:
+        for text in ("1 a\n", "    alone\n", "1 a\n1 a\n    b\n", "1 a\n    b\n1 a\n    b\n", "1 a\n    b\n2 c\n"):
+            with self.assertRaises(catalogue.ListError):
+                catalogue.read_list(text)
+
+    def test_a_name_of_nothing_is_refused(self) -> None:
+        with self.assertRaises(catalogue.ListError):
+            catalogue.check_list({"0 crates/one/src/lib.rt f: + -> - in a + b": "Never."}, [])
+
+
+class Verdicts(unittest.TestCase):
+    def answer(self, status: int, said: str) -> str:
+        return checker.verdict(status, said).answer
+
+    def test_answers(self) -> None:
+        at = "p/Proof.antt:1:2: error: "
+        fact = f"{at}`returns`: expected type `a`, but this has type `b`\n"
+        name = f"{at}`add`: `tie.Need-add`: module `M` has no `Need-add` that can be named from here\n"
+        follows = f"{at}`g`: `f` was not admitted (it has holes or undetermined implicits, or was rejected), so\n"
+        self.assertEqual(checker.PROVED, self.answer(0, "fn f: proved\nlogic=proved functions=1\n"))
+        self.assertEqual(checker.AT_A_FACT, self.answer(1, fact + follows + "logic=not-proved\n"))
+        self.assertEqual(checker.AT_A_FACT, self.answer(1, name + fact + "logic=not-proved\n"))
+        self.assertEqual(checker.BY_SHAPE, self.answer(1, name + follows + "logic=not-proved\n"))
+        field = f"{at}`returns`: record `At`\n  has no field `before`\n"
+        spec = f"{at}`f-spec`: expected type `tie.Need-a`, but this has type `tie.Need-b`\n"
+        self.assertEqual(checker.BY_SHAPE, self.answer(1, field + spec + "logic=not-proved\n"))
+        made = "note: src/lib.rt:1:2: it is not proved that the product fits its type (`mul`)\n"
+        self.assertEqual(checker.AT_A_FACT, self.answer(1, made + "logic=not-proved\n"))
+        for code in ("mismatched-types", "borrow-e0499"):
+            self.assertEqual(checker.NO_PROGRAM, self.answer(1, f"a/src/lib.rt:5:1: error[{code}]: expected `i64`\n"))
+
+    def test_no_verdict_is_not_told(self) -> None:
+        proved = "logic=proved functions=1\n"
+        for status, said in ((3, "rattle: no verdict\n"), (2, "a\n"), (1, "killed\n"), (0, ""), (1, proved), (-9, "")):
+            self.assertEqual(checker.NOT_TOLD, self.answer(status, said))
+
+
+if __name__ == "__main__":
+    unittest.main(verbosity=0)
