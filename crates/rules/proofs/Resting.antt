@@ -10,6 +10,7 @@ use Rattle.numbers.specs.Division.{floor-mono}
 use Rattle.numbers.specs.Searches.{failed, least-found, least-none}
 use Rattle.rules.specs.Curve.{Point, curveAt, isOn, valueOf, falling}
 use Rattle.rules.specs.Layer.{voidRatio, effectiveStress}
+use Rattle.rules.specs.Quantities.{voidUnit, waterLimits}
 use Rattle.rules.specs.Start.{atMost, restingWater}
 use Rattle.rules.specs.declared.quantities.CurveValue.{CurveValue}
 use Rattle.rules.specs.declared.quantities.CurveValue.the-variants.{On, Off}
@@ -31,7 +32,7 @@ at-most-lower Off w stress on h t = absurd t
 -- more water, more void ratio
 pub void-ratio-mono : (S : ℕ) → 0 < S → (U W : ℕ) → U ≤ W → voidRatio S U ≤ voidRatio S W
 unfolding voidRatio
-void-ratio-mono S h U W k = floor-mono h (U * 100_000_000) (W * 100_000_000) (omega arith)
+void-ratio-mono S h U W k = floor-mono h (U * voidUnit) (W * voidUnit) (omega arith)
 
 module _ (curve : List Point) (falls : T (falling curve)) (S : ℕ) (solid : 0 < S) (stress : ℕ) where
   -- up to the curve's first void ratio, what passes the test passes it with more water too
@@ -43,7 +44,7 @@ module _ (curve : List Point) (falls : T (falling curve)) (S : ℕ) (solid : 0 <
       let (on′, lower) = never-rises curve (voidRatio S U) (voidRatio S W) falls (void-ratio-mono S solid U W h) k on in
       at-most-lower (curveAt curve (voidRatio S U)) (curveAt curve (voidRatio S W)) stress on′ lower t
 
-  pub resting-found : (W : ℕ) → suc W ≤ 1_000_000_000 → voidRatio S W ≤ firstAbscissa curve →
+  pub resting-found : (W : ℕ) → suc W ≤ waterLimits .most → voidRatio S W ≤ firstAbscissa curve →
       T (atMost (effectiveStress curve S (suc W)) stress) → atMost (effectiveStress curve S W) stress ≡ false →
       restingWater curve S stress ≡ some (suc W)
   unfolding restingWater

@@ -17,9 +17,9 @@ use Rattle.rules.proofs.Points.{from-segment, from-point, from-end, fro
 
 -- the points of a compressibility curve
 pub record Compressible (n : ℕ) (void stress : List ℕ) : Type 0 where
-  pub void-low : (i : ℕ) → i < n → 1 ≤ getD void i 0
-  pub void-high : (i : ℕ) → i < n → getD void i 0 ≤ 1_000_000_000
-  pub stress-high : (i : ℕ) → i < n → getD stress i 0 ≤ 2_000_000_000
+  pub void-low : (i : ℕ) → i < n → voidLimits .least ≤ getD void i 0
+  pub void-high : (i : ℕ) → i < n → getD void i 0 ≤ voidLimits .most
+  pub stress-high : (i : ℕ) → i < n → getD stress i 0 ≤ stressLimits .most
   pub void-falls : (i : ℕ) → i + 1 < n → getD void (i + 1) 0 < getD void i 0
   pub stress-rises : (i : ℕ) → i + 1 < n → getD stress i 0 < getD stress (i + 1) 0
 
@@ -28,7 +28,7 @@ module _ (n : ℕ) (void stress : List ℕ) (sound : compressibilitySound (point
   unfolding compressibilitySound
   kept = both (all (λ p. within voidLimits (p .abscissa) && within stressLimits (p .ordinate)) (points n void stress)) (falling (points n void stress)) (passed sound)
 
-  point-limits : (i : ℕ) → i < n → ((1 ≤ getD void i 0) × (getD void i 0 ≤ 1_000_000_000)) × (getD stress i 0 ≤ 2_000_000_000)
+  point-limits : (i : ℕ) → i < n → ((voidLimits .least ≤ getD void i 0) × (getD void i 0 ≤ voidLimits .most)) × (getD stress i 0 ≤ stressLimits .most)
   point-limits i h =
       let (v, s) = both (within voidLimits (getD void i 0)) (within stressLimits (getD stress i 0)) (all-at n void stress _ (kept .0) i h) in
       (within-parts voidLimits (getD void i 0) v, within-parts stressLimits (getD stress i 0) s .1)
@@ -53,9 +53,9 @@ module _ (n : ℕ) (void stress : List ℕ) (sound : compressibilitySound (point
 
 -- the points of a conductivity curve
 pub record Conductive (n : ℕ) (void conductivity : List ℕ) : Type 0 where
-  pub void-high : (i : ℕ) → i < n → getD void i 0 ≤ 1_000_000_000
-  pub conductivity-low : (i : ℕ) → i < n → 1 ≤ getD conductivity i 0
-  pub conductivity-high : (i : ℕ) → i < n → getD conductivity i 0 ≤ 1_000_000_000
+  pub void-high : (i : ℕ) → i < n → getD void i 0 ≤ voidLimits .most
+  pub conductivity-low : (i : ℕ) → i < n → conductivityLimits .least ≤ getD conductivity i 0
+  pub conductivity-high : (i : ℕ) → i < n → getD conductivity i 0 ≤ conductivityLimits .most
   pub void-rises : (i : ℕ) → i + 1 < n → getD void i 0 < getD void (i + 1) 0
   pub never-falls : (i : ℕ) → i + 1 < n → getD conductivity i 0 ≤ getD conductivity (i + 1) 0
 
@@ -78,7 +78,7 @@ module _ (n : ℕ) (void conductivity : List ℕ) (first : List Point) (sound : 
   pub covers-first : T (covers (points n void conductivity) first)
   covers-first = parts .1
 
-  conductive-limits : (i : ℕ) → i < n → (getD void i 0 ≤ 1_000_000_000) × ((1 ≤ getD conductivity i 0) × (getD conductivity i 0 ≤ 1_000_000_000))
+  conductive-limits : (i : ℕ) → i < n → (getD void i 0 ≤ voidLimits .most) × ((conductivityLimits .least ≤ getD conductivity i 0) × (getD conductivity i 0 ≤ conductivityLimits .most))
   conductive-limits i h =
       let (v, k) = both (within voidLimits (getD void i 0)) (within conductivityLimits (getD conductivity i 0)) (all-at n void conductivity keeps (kept-and-rising .0) i h) in
       (within-parts voidLimits (getD void i 0) v .1, within-parts conductivityLimits (getD conductivity i 0) k)

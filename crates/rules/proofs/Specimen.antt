@@ -5,7 +5,7 @@ use mathlib.Core.Bool.{false}
 use mathlib.Core.List.{List}
 use mathlib.Core.Option.{some}
 use mathlib.Core.Path.{_≡_, refl}
-use Rattle.rules.specs.Quantities.{pressureOf}
+use Rattle.rules.specs.Quantities.{waterLimits, pressureOf}
 use Rattle.rules.specs.Curve.{Point, falling}
 use Rattle.rules.specs.Layer.{voidRatio, effectiveStress}
 use Rattle.rules.specs.Record.{recordSite, recordState}
@@ -22,7 +22,7 @@ restingCurve load = (jobSite (described (resting load))) .compressibility
 
 -- the water at rest of each element, where the height passes the test and the one below it fails
 module _ (load W : ℕ) where
-  rests : suc W ≤ 1_000_000_000 → voidRatio 1_000_000 W ≤ 200_000_000 →
+  rests : suc W ≤ waterLimits .most → voidRatio 1_000_000 W ≤ 200_000_000 →
       T (atMost (effectiveStress (restingCurve load) 1_000_000 (suc W)) load) →
       atMost (effectiveStress (restingCurve load) 1_000_000 W) load ≡ false →
       restingWater (restingCurve load) 1_000_000 load ≡ some (suc W)

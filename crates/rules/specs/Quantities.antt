@@ -1,7 +1,7 @@
 -- Quantities: the limits of each kind, and the weight of water.
 -- Lengths and volumes per unit area are in nanometres, stresses and pressures in millipascals, times in seconds,
 -- conductivities in femtometres per second, void ratios in hundred-millionths.
-use Prim.Native.Nat.{ℕ}
+use Prim.Native.Nat.{ℕ, _*_, _/_}
 use lib.Dec.{leb}
 use lib.IntN.{ℤ, pos, negsuc, _*ℤ_}
 use mathlib.Core.Bool.{Bool, false, _&&_}
@@ -76,9 +76,17 @@ limitsOf Solids = solidsLimits
 limitsOf Water = waterLimits
 limitsOf Zero = from 0 to 0
 
+-- a void ratio of 1
+abbrev pub voidUnit : ℕ
+voidUnit = 100_000_000
+
 -- no outflow is greater in size than this for each second of the clock
 abbrev pub outflowRate : ℕ
 outflowRate = 2_300_000_000
+
+-- so none is greater than this at the last second of the clock
+abbrev pub mostOutflow : ℕ
+mostOutflow = outflowRate * clockLimits .most
 
 -- a number keeps the limits of its kind
 unfoldable pub within : Limits → ℕ → Bool
@@ -99,3 +107,7 @@ pressure stress = record { 0 = stress }
 -- the pressure of a head, by the weight of water
 unfoldable pub pressureOf : Head → Pressure
 pressureOf h = pressure (cut (h .0 *ℤ pos 981) 100_000)
+
+-- that of the greatest head, the whole range of levels
+abbrev pub mostHeadPressure : ℕ
+mostHeadPressure = levelLimits .most * 981 / 100_000

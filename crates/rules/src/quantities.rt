@@ -29,6 +29,9 @@ pub enum TestedHead {
 }
 
 impl Head {
+    // A metre.
+    pub const METRE: u64 = 1_000_000_000;
+
     pub const LEAST: u64 = 0;
 
     pub const MOST: u64 = 200_000_000_000;
@@ -113,9 +116,12 @@ pub enum TestedVoid {
 }
 
 impl Void {
+    // A void ratio of 1.
+    pub const ONE: u64 = 100_000_000;
+
     pub const LEAST: u64 = 1;
 
-    pub const MOST: u64 = 1_000_000_000;
+    pub const MOST: u64 = 10 * Void::ONE;
 
     pub fn holds(n: u64) -> bool
         ensures { λ r. ⌜ r ≡ within voidLimits n ⌝ }
@@ -200,7 +206,8 @@ pub struct Water(pub u64);
 impl Water {
     pub const LEAST: u64 = 0;
 
-    pub const MOST: u64 = 1_000_000_000;
+    // What the most solids hold at the greatest void ratio.
+    pub const MOST: u64 = Solids::MOST * Void::MOST / Void::ONE;
 
     pub fn holds(n: u64) -> bool
         ensures { λ r. ⌜ r ≡ within waterLimits n ⌝ }
@@ -320,7 +327,8 @@ pub struct StartingWater(pub u64);
 impl StartingWater {
     pub const LEAST: u64 = 0;
 
-    pub const MOST: u64 = 128_000_000_000;
+    // The most water in as many elements as there can be.
+    pub const MOST: u64 = Elements::MOST * Water::MOST;
 
     pub fn holds(n: u64) -> bool
         ensures { λ r. ⌜ r ≡ within startingWaterLimits n ⌝ }
