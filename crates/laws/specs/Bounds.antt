@@ -15,6 +15,7 @@ use Rattle.numbers.specs.Division.{le-floor, ceil-le}
 use Rattle.numbers.specs.Searches.{both, joined, same-test}
 use Rattle.rules.specs.Curve.{Point, isOn, falling}
 use Rattle.rules.specs.Layer.{voidRatio, effectiveStress}
+use Rattle.rules.specs.Quantities.{voidLimits, solidsLimits, waterLimits, voidUnit}
 use Rattle.rules.specs.Step.{onCurve}
 use Rattle.rules.proofs.Falling.{firstAbscissa}
 use Rattle.laws.specs.Rising.{lastAbscissa, falling-on}
@@ -22,22 +23,22 @@ use Rattle.laws.specs.Rising.{lastAbscissa, falling-on}
 -- the least water with which the void ratio of an element reaches v
 unfoldable pub lowestWater : (S v : ℕ) → ℕ
 unfolding ceil
-lowestWater S v = ceil (v * S) 100_000_000
+lowestWater S v = ceil (v * S) voidUnit
 
 -- the most water with which it does not pass u
 unfoldable pub highestWater : (S u : ℕ) → ℕ
-highestWater S u = floor ((u + 1) * S - 1) 100_000_000
+highestWater S u = floor ((u + 1) * S - 1) voidUnit
 
 -- both are within the limits of water
-pub lowest-most : (S v : ℕ) → S ≤ 100_000_000 → v ≤ 1_000_000_000 → lowestWater S v ≤ 1_000_000_000
+pub lowest-most : (S v : ℕ) → S ≤ solidsLimits .most → v ≤ voidLimits .most → lowestWater S v ≤ waterLimits .most
 unfolding lowestWater
-lowest-most S v h k = ceil-le {b = 100_000_000} (lit< tt) (v * S) 1_000_000_000 .1 (mul-le-mul k h)
+lowest-most S v h k = ceil-le {b = voidUnit} (lit< tt) (v * S) (waterLimits .most) .1 (mul-le-mul k h)
 
-pub highest-most : (S u : ℕ) → 0 < S → S ≤ 100_000_000 → u ≤ 1_000_000_000 → highestWater S u ≤ 1_000_000_000
+pub highest-most : (S u : ℕ) → 0 < S → S ≤ solidsLimits .most → u ≤ voidLimits .most → highestWater S u ≤ waterLimits .most
 unfolding highestWater
 highest-most S u p h k =
-    let product : (u + 1) * S ≤ 100_000_000_100_000_000 = mul-le-mul {n₁ = u + 1} {m₁ = S} {n₂ = 1_000_000_001} {m₂ = 100_000_000} (omega arith) h in
-    let below : (floor ((u + 1) * S - 1) 100_000_000 < 1_000_000_001) ↔ ((u + 1) * S - 1 < 1_000_000_001 * 100_000_000) = div-lt-iff-lt-mul (lit< tt) in
+    let product : (u + 1) * S ≤ (voidLimits .most + 1) * solidsLimits .most = mul-le-mul {n₁ = u + 1} {m₁ = S} {n₂ = voidLimits .most + 1} {m₂ = solidsLimits .most} (omega arith) h in
+    let below : (floor ((u + 1) * S - 1) voidUnit < waterLimits .most + 1) ↔ ((u + 1) * S - 1 < (waterLimits .most + 1) * voidUnit) = div-lt-iff-lt-mul (lit< tt) in
     omega (arith, below .1 (omega (arith, mul-pos {m = u + 1} {n = S} (omega arith) p)))
 
 module _ (S : ℕ) (solid : 0 < S) (W : ℕ) where
@@ -45,16 +46,16 @@ module _ (S : ℕ) (solid : 0 < S) (W : ℕ) where
   pub lowest-water : (v : ℕ) → (v ≤ voidRatio S W) ↔ (lowestWater S v ≤ W)
   unfolding voidRatio lowestWater
   lowest-water v =
-      let f = le-floor solid v (W * 100_000_000) in
-      let c = ceil-le {b = 100_000_000} (lit< tt) (v * S) W in
+      let f = le-floor solid v (W * voidUnit) in
+      let c = ceil-le {b = voidUnit} (lit< tt) (v * S) W in
       (λ h. c .1 (f .0 h), λ h. f .1 (c .0 h))
 
   -- the void ratio does not pass u just where the water does not pass the highest
   pub highest-water : (u : ℕ) → (voidRatio S W ≤ u) ↔ (W ≤ highestWater S u)
   unfolding voidRatio highestWater
   highest-water u =
-      let f : (floor (W * 100_000_000) S < u + 1) ↔ (W * 100_000_000 < (u + 1) * S) = div-lt-iff-lt-mul solid in
-      let c = le-floor {b = 100_000_000} (lit< tt) W ((u + 1) * S - 1) in
+      let f : (floor (W * voidUnit) S < u + 1) ↔ (W * voidUnit < (u + 1) * S) = div-lt-iff-lt-mul solid in
+      let c = le-floor {b = voidUnit} (lit< tt) W ((u + 1) * S - 1) in
       (λ h. c .1 (omega (arith, f .0 (omega arith))), λ h. omega (arith, f .1 (omega (arith, c .0 h))))
 
 module _ (l : List Point) (f : T (falling l)) (two : 2 ≤ length l) (S : ℕ) (solid : 0 < S) where

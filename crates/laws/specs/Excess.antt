@@ -14,29 +14,31 @@ use Rattle.numbers.specs.Sums.{sum}
 use Rattle.rules.specs.Curve.{Point, curveAt, isOn, valueOf, compressibilitySound, conductivitySound}
 use Rattle.rules.specs.Layer.{Site, State, height, voidRatio, effectiveStress, hydraulicConductivity, buoyantWeight, burden, burdens}
 use Rattle.rules.specs.Layer.{excessPressure, resistance, Element, element, elementsFrom, elements}
+use Rattle.rules.specs.Quantities.{stressLimits, solidsLimits, gravityLimits, elementLimits}
 use Rattle.rules.specs.Step.{onCurve, allOnCurve}
 use Rattle.laws.specs.Every.{Every}
 use Rattle.laws.specs.Amid.{Between}
+use Rattle.laws.specs.Most.{mostWeight, sharpBurden, mostBurden, mostExcess, mostResistance}
 use Rattle.laws.specs.Rising.{off-unless-on}
 use Rattle.laws.specs.Ranges.{compressibility-ranged, conductivity-ranged, conducts}
 use Rattle.laws.specs.VoidRatio.{water-on-curve}
 
 -- ---- burdens
 
-module _ (g : ℕ) (light : g ≤ 5_000) where
+module _ (g : ℕ) (light : g ≤ gravityLimits .most) where
   -- the buoyant weight of an element is at most that of the most solids with the greatest gravity
-  pub weight-most : (S : ℕ) → S ≤ 100_000_000 → buoyantWeight g S ≤ 3_924_000
+  pub weight-most : (S : ℕ) → S ≤ solidsLimits .most → buoyantWeight g S ≤ mostWeight
   unfolding buoyantWeight
   weight-most S h = let most : g - 1_000 ≤ 4_000 = omega arith in omega (arith, mul-le-mul h most)
 
   -- so many elements weigh at most so many times that
-  pub weights-most : (Ss : List ℕ) → Every (λ S. S ≤ 100_000_000) Ss → sum (map (buoyantWeight g) Ss) ≤ length Ss * 3_924_000
+  pub weights-most : (Ss : List ℕ) → Every (λ S. S ≤ solidsLimits .most) Ss → sum (map (buoyantWeight g) Ss) ≤ length Ss * mostWeight
   unfolding Every sum
   weights-most [] h = omega arith
   weights-most (S ∷ Ss) h = omega (arith, weight-most S (h .0), weights-most Ss (h .1))
 
   -- the burden of each of at most 128 elements is in range
-  pub burdens-most : (Ss : List ℕ) → Every (λ S. S ≤ 100_000_000) Ss → length Ss ≤ 128 → Every (λ B. B ≤ 500_310_000) (burdens g Ss)
+  pub burdens-most : (Ss : List ℕ) → Every (λ S. S ≤ solidsLimits .most) Ss → length Ss ≤ elementLimits .most → Every (λ B. B ≤ sharpBurden) (burdens g Ss)
   unfolding Every burdens burden
   burdens-most [] h k = tt
   burdens-most (S ∷ Ss) h k =
@@ -46,16 +48,16 @@ module _ (g : ℕ) (light : g ≤ 5_000) where
 
 module _ (l : List Point) (sound : T (compressibilitySound l)) where
   -- what a sound curve gives, 0 off it, is at most the greatest stress
-  pub stress-most : (x : ℕ) → valueOf (curveAt l x) ≤ 2_000_000_000
+  pub stress-most : (x : ℕ) → valueOf (curveAt l x) ≤ stressLimits .most
   unfolding valueOf
   stress-most x =
-      by-test (isOn (curveAt l x)) (λ _. valueOf (curveAt l x) ≤ 2_000_000_000)
+      by-test (isOn (curveAt l x)) (λ _. valueOf (curveAt l x) ≤ stressLimits .most)
       (λ on. compressibility-ranged l x sound on .highest)
       (λ off. rw (off-unless-on (curveAt l x) (T-not (isOn (curveAt l x)) off)) (omega arith))
 
   -- the excess pressure of an element is in range
-  pub excess-within : (load : ℤ) (B S W : ℕ) → Between (pos 0) (pos 2_000_000_000) load → B ≤ 510_000_000 →
-      Within (excessPressure l load B S W) 2_520_000_000
+  pub excess-within : (load : ℤ) (B S W : ℕ) → Between (pos 0) (pos (stressLimits .most)) load → B ≤ mostBurden →
+      Within (excessPressure l load B S W) mostExcess
   unfolding excessPressure effectiveStress
   excess-within load B S W limits h =
       let stress = valueOf (curveAt l (voidRatio S W)) in
@@ -67,29 +69,29 @@ module _ (l : List Point) (sound : T (compressibilitySound l)) where
 -- a resistance keeps its range
 pub record Resists (r : ℕ) : Type 0 where
   pub positive : 0 < r
-  pub most : r ≤ 5_400_000_000_000
+  pub most : r ≤ mostResistance
 
 module _ (l k : List Point) (sound : T (compressibilitySound l)) (sound′ : T (conductivitySound k l)) where
   -- the resistance of an element on the curve is in range
-  pub resistance-ranged : (S W : ℕ) → 0 < S → S ≤ 100_000_000 → T (isOn (effectiveStress l S W)) → Resists (resistance k S W)
+  pub resistance-ranged : (S W : ℕ) → 0 < S → S ≤ solidsLimits .most → T (isOn (effectiveStress l S W)) → Resists (resistance k S W)
   unfolding resistance effectiveStress hydraulicConductivity
   resistance-ranged S W solid h on =
       let kr = conductivity-ranged k l (voidRatio S W) sound′ (conducts k l (voidRatio S W) sound sound′ on) in
       let w = water-on-curve S solid l W h sound on in
       record {
         positive = ceil-pos (kr .lowest) (4_905 * height S W) (omega arith);
-        most = ceil-le (kr .lowest) (4_905 * height S W) 5_400_000_000_000 .1 (omega arith);
+        most = ceil-le (kr .lowest) (4_905 * height S W) mostResistance .1 (omega arith);
       }
 
 -- ---- the layer
 
 -- the excess pressure of an element is in range
 abbrev pub ExcessWithin : Element → Type 0
-ExcessWithin e = Within e.excess 2_520_000_000
+ExcessWithin e = Within e.excess mostExcess
 
 module _ (site : Site) (sound : T (compressibilitySound site.compressibility)) where
   -- every excess pressure under burdens in range is in range
-  from-burdens : (load : ℤ) (Bs Ss Ws : List ℕ) → Between (pos 0) (pos 2_000_000_000) load → Every (λ B. B ≤ 500_310_000) Bs →
+  from-burdens : (load : ℤ) (Bs Ss Ws : List ℕ) → Between (pos 0) (pos (stressLimits .most)) load → Every (λ B. B ≤ sharpBurden) Bs →
       Every ExcessWithin (elementsFrom site load Bs Ss Ws)
   unfolding Every elementsFrom element
   from-burdens load [] Ss Ws h k = tt
@@ -99,8 +101,8 @@ module _ (site : Site) (sound : T (compressibilitySound site.compressibility)) w
       (excess-within site.compressibility sound load B S W h (omega (arith, k .0)), from-burdens load Bs Ss Ws h (k .1))
 
   -- every excess pressure of at most 128 elements is in range
-  pub excesses-within : (s : State) → Between (pos 0) (pos 2_000_000_000) s.load → site.gravity ≤ 5_000 →
-      Every (λ S. S ≤ 100_000_000) site.solids → length site.solids ≤ 128 →
+  pub excesses-within : (s : State) → Between (pos 0) (pos (stressLimits .most)) s.load → site.gravity ≤ gravityLimits .most →
+      Every (λ S. S ≤ solidsLimits .most) site.solids → length site.solids ≤ elementLimits .most →
       Every ExcessWithin (elements site s)
   unfolding elements
   excesses-within s h light small few =
@@ -108,7 +110,7 @@ module _ (site : Site) (sound : T (compressibilitySound site.compressibility)) w
 
   module _ (sound′ : T (conductivitySound site.conductivity site.compressibility)) where
     -- every resistance of a part of the layer on the curve is in range
-    from-water : (load : ℤ) (Bs Ss Ws : List ℕ) → Every (λ S. 0 < S) Ss → Every (λ S. S ≤ 100_000_000) Ss →
+    from-water : (load : ℤ) (Bs Ss Ws : List ℕ) → Every (λ S. 0 < S) Ss → Every (λ S. S ≤ solidsLimits .most) Ss →
         T (allOnCurve site.compressibility Ss (map pos Ws)) → Every (λ e. Resists (e .resistance)) (elementsFrom site load Bs Ss Ws)
     unfolding Every elementsFrom element allOnCurve onCurve
     from-water load [] Ss Ws solid small t = tt
@@ -121,7 +123,7 @@ module _ (site : Site) (sound : T (compressibilitySound site.compressibility)) w
         )
 
     -- every resistance of a layer on the curve is in range
-    pub resistances-ranged : (s : State) → Every (λ S. 0 < S) site.solids → Every (λ S. S ≤ 100_000_000) site.solids →
+    pub resistances-ranged : (s : State) → Every (λ S. 0 < S) site.solids → Every (λ S. S ≤ solidsLimits .most) site.solids →
         T (allOnCurve site.compressibility site.solids (map pos s.water)) → Every (λ e. Resists (e .resistance)) (elements site s)
     unfolding elements
     resistances-ranged s = from-water s.load (burdens site.gravity site.solids) site.solids s.water

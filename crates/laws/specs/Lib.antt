@@ -18,6 +18,7 @@ pub mod Contacts
 pub mod OnCurve
 pub mod Spread
 -- the ranges of what a step reads and of what flows out
+pub mod Most
 pub mod Excess
 pub mod Outflow
 -- the balance of water

@@ -10,6 +10,7 @@ use Rattle.numbers.specs.Rounding.{cut}
 use Rattle.numbers.specs.Interval.{Within, within-le, within-pos, within-neg, within-sub}
 use Rattle.numbers.specs.Lists.{firstOr, lastOr}
 use Rattle.rules.specs.Layer.{Site, State, Element, elements}
+use Rattle.rules.specs.Quantities.{outflowRate, mostHeadPressure}
 use Rattle.rules.specs.Step.{upward, outward, flowsAbove, upwardFlows, stressSlope, outerContacts, contactsAbove, contacts, tooLong}
 use Rattle.rules.specs.declared.quantities.Face.{Face}
 use Rattle.rules.specs.declared.quantities.Face.the-variants.{Closed, Drained}
@@ -26,11 +27,11 @@ half-difference d t R K two short =
 
 -- no pressure that a drained face holds is greater than that of the greatest head
 abbrev pub HeldWithin : Face → Type 0
-HeldWithin = Holds (λ p. Within p 1_962_000_000)
+HeldWithin = Holds (λ p. Within p mostHeadPressure)
 
 -- a flow of t seconds through an outer face is in range
 abbrev pub OuterWithin : (t : ℕ) → ℤ → Type 0
-OuterWithin t flow = Within flow (2_300_000_000 * t)
+OuterWithin t flow = Within flow (outflowRate * t)
 
 module _ (K t : ℕ) (h : 1 ≤ t) where
   -- what flows out of an element through an outer face is in range

@@ -15,7 +15,7 @@ use Rattle.numbers.specs.Signed.{one-sided, sub-parts}
 use Rattle.rules.specs.Curve.{points, compressibilitySound, conductivitySound}
 use Rattle.rules.specs.Layer.{topPressure, bottomPressure}
 use Rattle.rules.specs.Load.{tableSound}
-use Rattle.rules.specs.Quantities.{pressureOf, levelLimits}
+use Rattle.rules.specs.Quantities.{levelLimits, pressureOf, mostHeadPressure}
 use Rattle.rules.specs.Record.{headerSound, faceNumber, sizesSound, faceHolds, recordSite, recordState, siteSound}
 use Rattle.rules.specs.declared.quantities.Face.{Face}
 use Rattle.rules.specs.declared.quantities.Face.the-variants.{Closed, Drained}
@@ -71,17 +71,17 @@ site-parts r e =
     }
 
 -- a face that holds a pressure in range
-held-within : (face : Face) (held : Pressure) → Within (held .0) 1_962_000_000 → faceHolds face held ≡ true → HeldWithin face
+held-within : (face : Face) (held : Pressure) → Within (held .0) mostHeadPressure → faceHolds face held ≡ true → HeldWithin face
 unfolding faceHolds Holds
 held-within Closed held h e = tt
 held-within (Drained other) held h e = rw (eqℤ→eq (other .0) (held .0) (passed e)) h
 
 -- P between two levels is in range
 pub bottom-within : (top bottom : ℤ) → Between (pos 0) (pos (levelLimits .most)) top → Between (pos 0) (pos (levelLimits .most)) bottom →
-    Within ((bottomPressure top bottom) .0) 1_962_000_000
+    Within ((bottomPressure top bottom) .0) mostHeadPressure
 unfolding bottomPressure pressureOf
 bottom-within top bottom t b =
-    let difference : Within (bottom -ℤ top) 200_000_000_000 = omega (intervals, one-sided (bottom -ℤ top), sub-parts bottom top, t .0, t .1, b .0, b .1) in
+    let difference : Within (bottom -ℤ top) (levelLimits .most) = omega (intervals, one-sided (bottom -ℤ top), sub-parts bottom top, t .0, t .1, b .0, b .1) in
     within-cut {b = 100_000} (lit< tt) (within-mul difference (within-pos 981))
 
 -- what a sound site says

@@ -12,7 +12,7 @@ use Rattle.numbers.specs.Interval.{Within}
 use Rattle.numbers.specs.Searches.{passed, both, is-true}
 use Rattle.numbers.specs.Sums.{sum}
 use Rattle.rules.proofs.Limits.{within-parts}
-use Rattle.rules.specs.Quantities.{within, withinℤ, stressLimits, clockLimits, startingWaterLimits}
+use Rattle.rules.specs.Quantities.{within, withinℤ, stressLimits, clockLimits, startingWaterLimits, outflowRate}
 use Rattle.rules.specs.Record.{recordSite, recordState, outflowSound, stateSound}
 use Rattle.rules.specs.Step.{allOnCurve}
 use Rattle.rules.specs.declared.record.Record.{Record}
@@ -30,9 +30,9 @@ unfolding stateSound
 state-by r e₁ e₂ e₃ e₄ e₅ e₆ e₇ = rw (e₁, e₂, e₃, e₄, e₅, e₆, e₇) refl
 
 -- an outflow that keeps its bound
-pub outflow-bound : (outflow : ℤ) (clock : ℕ) → outflowSound outflow clock ≡ true → Within outflow (2_300_000_000 * clock)
+pub outflow-bound : (outflow : ℤ) (clock : ℕ) → outflowSound outflow clock ≡ true → Within outflow (outflowRate * clock)
 unfolding outflowSound
-outflow-bound outflow clock e = record { bound = leb→le (natAbs outflow) (2_300_000_000 * clock) (passed e) }
+outflow-bound outflow clock e = record { bound = leb→le (natAbs outflow) (outflowRate * clock) (passed e) }
 
 -- what a sound state says
 pub record StateFacts (r : Record) : Type 0 where
@@ -40,8 +40,8 @@ pub record StateFacts (r : Record) : Type 0 where
   pub load-between : Between (pos 0) (pos (stressLimits .most)) (r .layer .progress .load .0)
   pub clock-most : r .layer .progress .clock .0 ≤ clockLimits .most
   pub starting-most : r .layer .frame .«starting_water» ≤ startingWaterLimits .most
-  pub top-bound : Within (r .layer .progress .«top_outflow» .0) (2_300_000_000 * r .layer .progress .clock .0)
-  pub bottom-bound : Within (r .layer .progress .«bottom_outflow» .0) (2_300_000_000 * r .layer .progress .clock .0)
+  pub top-bound : Within (r .layer .progress .«top_outflow» .0) (outflowRate * r .layer .progress .clock .0)
+  pub bottom-bound : Within (r .layer .progress .«bottom_outflow» .0) (outflowRate * r .layer .progress .clock .0)
   pub balance : pos (r .layer .frame .«starting_water») ≡ pos (sum ((recordState r) .water)) +ℤ r .layer .progress .«top_outflow» .0 +ℤ r .layer .progress .«bottom_outflow» .0
 
 pub state-facts : (r : Record) → stateSound r ≡ true → StateFacts r

@@ -33,7 +33,7 @@ abbrev inLimits : Point → Bool
 inLimits p = within voidLimits (p .abscissa) && within stressLimits (p .ordinate)
 
 -- a stress within its limits rises by at most the greatest over any fall
-steep-within : (l : List Point) → T (all inLimits l) → T (falling l) → steepness l ≤ 2_000_000_000
+steep-within : (l : List Point) → T (all inLimits l) → T (falling l) → steepness l ≤ stressLimits .most
 unfolding steepness all within
 steep-within [] t f = omega arith
 steep-within (a ∷ []) t f = omega arith
@@ -42,13 +42,13 @@ steep-within (a ∷ b ∷ rest) t f =
     let later = both (inLimits a) (all inLimits (b ∷ rest)) t .1 in
     let (first, others) = both (inLimits b) (all inLimits rest) later in
     let kept = both (within voidLimits (b .abscissa)) (within stressLimits (b .ordinate)) first .1 in
-    let most = leb→le b.ordinate 2_000_000_000 (both (leb 0 b.ordinate) (leb b.ordinate 2_000_000_000) kept .1) in
+    let most = leb→le b.ordinate (stressLimits .most) (both (leb 0 b.ordinate) (leb b.ordinate (stressLimits .most)) kept .1) in
     omega (
       arith,
-      ceil-le {b = a.abscissa - b.abscissa} (omega arith) (b.ordinate - a.ordinate) 2_000_000_000 .1 (omega arith),
+      ceil-le {b = a.abscissa - b.abscissa} (omega arith) (b.ordinate - a.ordinate) (stressLimits .most) .1 (omega arith),
       steep-within (b ∷ rest) later more,
     )
 
-pub steep-most : (l : List Point) → T (compressibilitySound l) → steepness l ≤ 2_000_000_000
+pub steep-most : (l : List Point) → T (compressibilitySound l) → steepness l ≤ stressLimits .most
 unfolding compressibilitySound
 steep-most l sound = let (t, f) = both (all inLimits l) (falling l) sound in steep-within l t f
