@@ -31,7 +31,7 @@ outward-same (Drained held) t e c = refl
 
 -- no flow passes the most
 pub flow-range : (d : ℤ) (t R : ℕ) → Within d mostDifference → t ≤ stepLimits .most → Within (cut (d *ℤ pos t) R) mostFlow
-flow-range d t R h short = within-quot (pos R) (within-mul h (within-le {n = 1_000_000} (within-pos t) short))
+flow-range d t R h short = within-quot (pos R) (within-mul h (within-le {n = stepLimits .most} (within-pos t) short))
 
 pub outward-range : (face : Face) (t : ℕ) (e : Element) → HeldWithin face → Within e.excess mostExcess → t ≤ stepLimits .most →
     Within (outward face t e) mostFlow

@@ -8,37 +8,8 @@ use Rattle.numbers.specs.Interval.{Within}
 use Rattle.rules.specs.Layer.{Element}
 use Rattle.rules.specs.Step.{flowsAbove}
 use Rattle.rules.specs.declared.quantities.Face.{Face}
-
--- ---- the most that these can be, from the limits of a job
-
--- B: 128 elements of the greatest weight
-abbrev pub mostBurden : ℕ
-mostBurden = 510_000_000
-
--- p, above and below zero
-abbrev pub mostExcess : ℕ
-mostExcess = 2_520_000_000
-
--- between two elements, or an element and a drained face
-abbrev pub mostDifference : ℕ
-mostDifference = 10_000_000_000
-
--- r, and R of an inner face
-abbrev pub mostResistance : ℕ
-mostResistance = 5_400_000_000_000
-
-abbrev pub mostFaceResistance : ℕ
-mostFaceResistance = 11_000_000_000_000
-
--- c
-abbrev pub mostSensitivity : ℕ
-mostSensitivity = 100_000_000
-
--- through a face in a step
-abbrev pub mostFlow : ℕ
-mostFlow = 10_000_000_000_000_000
-
--- ---- elements
+-- the most that these can be
+pub use Rattle.laws.specs.Most.{mostBurden, mostExcess, mostDifference, mostResistance, mostFaceResistance, mostSensitivity, mostFlow}
 
 abbrev pub elementOf : (excess : ℤ) (resistance sensitivity : ℕ) → Element
 elementOf excess resistance sensitivity = record { excess = excess; resistance = resistance; sensitivity = sensitivity }

@@ -4,6 +4,7 @@ ghost use mathlib.Core.Bool.{true};
 ghost use mathlib.Core.Path.{_≡_};
 ghost use Prim.Native.Nat.{_+_, _≤_, _<_};
 ghost use Rattle.element.specs.Elements.{elementOf, mostBurden, mostExcess, mostDifference, mostResistance, mostFaceResistance};
+ghost use Rattle.laws.specs.Most.{mostWeight};
 ghost use Rattle.laws.specs.Outflow.{HeldWithin};
 ghost use Rattle.numbers.specs.Interval.{Within};
 ghost use Rattle.numbers.specs.Rounding.{cut};
@@ -14,14 +15,16 @@ ghost use Rattle.rules.specs.Quantities.{stressLimits, conductivityLimits, soli
 use curves::reading;
 use curves::reading::Found;
 use rules::quantities::Face;
+use rules::quantities::Head;
 use rules::quantities::Pressure;
+use rules::quantities::Void;
 
 // E, from solids and water within their limits.
 pub fn void_ratio(solids: u64, water: u64) -> u64
     requires { ⌜ (0 < solids) × (water ≤ waterLimits .most) ⌝ }
     ensures { λ r. ⌜ r ≡ voidRatio solids water ⌝ }
 {
-    numbers::floor(water * 100_000_000, solids)
+    numbers::floor(water * Void::ONE, solids)
 }
 
 // The effective stress, read at the element's void ratio, whatever segment the hint names.
@@ -45,9 +48,9 @@ pub fn effective_stress<'a>(
 pub fn buoyant_weight(gravity: u64, solids: u64) -> u64
     requires { ⌜ (gravityLimits .least ≤ gravity) × (gravity ≤ gravityLimits .most) ⌝ }
     requires { ⌜ solids ≤ solidsLimits .most ⌝ }
-    ensures { λ r. ⌜ (r ≡ buoyantWeight gravity solids) × (r ≤ 3_924_000) ⌝ }
+    ensures { λ r. ⌜ (r ≡ buoyantWeight gravity solids) × (r ≤ mostWeight) ⌝ }
 {
-    numbers::floor(solids * (gravity - 1_000) * 9_810, 1_000_000_000)
+    numbers::floor(solids * (gravity - 1_000) * 9_810, Head::METRE)
 }
 
 // r, from an element's height and conductivity.
@@ -64,7 +67,7 @@ pub fn sensitivity(solids: u64) -> u64
     requires { ⌜ (0 < solids) × (solids ≤ solidsLimits .most) ⌝ }
     ensures { λ r. ⌜ r ≡ sensitivity solids ⌝ }
 {
-    numbers::ceil(100_000_000, solids)
+    numbers::ceil(Void::ONE, solids)
 }
 
 // p, from the load, the burden and the effective stress.

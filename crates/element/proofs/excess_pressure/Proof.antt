@@ -1,11 +1,14 @@
+use Prim.Native.Nat.{_+_}
 use native.Mathlib.Omega.{arith}
 use borrow.Author.Needs.{needs}
 use lib.IntN.{pos, _+ℤ_, _-ℤ_}
 use mathlib.Core.Path.{_≡_}
 use mir.Syntax.{w64}
 use mir.Val.{SFits, toZ}
+use Rattle.element.specs.Elements.{mostBurden}
 use Rattle.numbers.specs.Interval.{Within, within-add, within-sub, within-le, within-pos, within-fits}
 use Rattle.numbers.specs.Signed.{readBack, readUnsigned}
+use Rattle.rules.specs.Quantities.{stressLimits}
 use Rattle.element.proofs.excess_pressure.Statement.{statement}
 use Rattle.element.proofs.excess_pressure.Tie as tie
 
@@ -19,14 +22,14 @@ module _ (c : tie.Start) where
   stress-is : toZ w64 (c .args .stress) ≡ pos (c .args .stress)
   stress-is = readUnsigned (c .args .stress) (omega arith)
 
-  total : Within (c .args .load .0 +ℤ pos (c .args .burden)) 2_510_000_000
-  total = within-add (c .pre .0) (within-le {n = 510_000_000} (within-pos (c .args .burden)) (omega arith))
+  total : Within (c .args .load .0 +ℤ pos (c .args .burden)) (stressLimits .most + mostBurden)
+  total = within-add (c .pre .0) (within-le {n = mostBurden} (within-pos (c .args .burden)) (omega arith))
 
   total-fits : SFits w64 (c .args .load .0 +ℤ pos (c .args .burden))
   total-fits = within-fits tt total
 
   excess-fits : SFits w64 (c .args .load .0 +ℤ pos (c .args .burden) -ℤ pos (c .args .stress))
-  excess-fits = within-fits {n = 4_510_000_000} tt (within-sub total (within-le {n = 2_000_000_000} (within-pos (c .args .stress)) (omega arith)))
+  excess-fits = within-fits {n = stressLimits .most + mostBurden + stressLimits .most} tt (within-sub total (within-le {n = stressLimits .most} (within-pos (c .args .stress)) (omega arith)))
 
 cast-excess : tie.Need-cast-excess
 cast-excess c = search needs

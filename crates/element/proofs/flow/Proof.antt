@@ -5,9 +5,11 @@ use lib.IntN.{pos, _*ℤ_}
 use mathlib.Core.Path.{_≡_}
 use mir.Syntax.{w64}
 use mir.Val.{SFits, toZ}
+use Rattle.element.specs.Elements.{mostFlow}
 use Rattle.numbers.specs.Interval.{Within, within-mul, within-quot, within-le, within-pos, within-fits}
 use Rattle.numbers.specs.Rounding.{cut}
 use Rattle.numbers.specs.Signed.{signed, readBack, readUnsigned}
+use Rattle.rules.specs.Quantities.{stepLimits}
 use Rattle.element.proofs.flow.Statement.{statement}
 use Rattle.element.proofs.flow.Tie as tie
 
@@ -18,8 +20,8 @@ module _ (c : tie.Start) where
   resistance-is : toZ w64 (c .args .resistance) ≡ pos (c .args .resistance)
   resistance-is = readUnsigned (c .args .resistance) (omega arith)
 
-  product : Within (c .args .difference *ℤ pos (c .args .t)) 10_000_000_000_000_000
-  product = within-mul (c .pre .0) (within-le {n = 1_000_000} (within-pos (c .args .t)) (omega arith))
+  product : Within (c .args .difference *ℤ pos (c .args .t)) mostFlow
+  product = within-mul (c .pre .0) (within-le {n = stepLimits .most} (within-pos (c .args .t)) (omega arith))
 
   product-fits : SFits w64 (c .args .difference *ℤ pos (c .args .t))
   product-fits = within-fits tt product

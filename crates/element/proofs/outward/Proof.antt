@@ -3,9 +3,11 @@ use borrow.Author.Needs.{needs}
 use lib.IntN.{ℤ, _-ℤ_}
 use mir.Syntax.{w64}
 use mir.Val.{SFits}
+use Rattle.element.specs.Elements.{mostDifference}
 use Rattle.laws.specs.Spread.{Holds}
 use Rattle.numbers.specs.Interval.{Within, within-sub, within-le, within-fits}
 use Rattle.numbers.specs.Signed.{readBack}
+use Rattle.rules.specs.Quantities.{mostHeadPressure}
 use Rattle.rules.specs.Step.{outward}
 use Rattle.element.proofs.outward.Statement.{statement}
 use Rattle.element.proofs.outward.Tie as tie
@@ -17,14 +19,14 @@ module _ (c : tie.After-face) where
   abbrev held : ℤ
   held = c .face .given .0 .0 .0
 
-  held-within : Within held 1_962_000_000
+  held-within : Within held mostHeadPressure
   unfolding Holds
   held-within = rw (c .face .given .1) at (s .pre .1 .0)
 
   held-fits : SFits w64 held
   held-fits = within-fits tt held-within
 
-  difference : Within (s .args .excess -ℤ held) 10_000_000_000
+  difference : Within (s .args .excess -ℤ held) mostDifference
   difference = within-le (within-sub (s .pre .0) held-within) (omega arith)
 
   difference-fits : SFits w64 (s .args .excess -ℤ held)
