@@ -5,11 +5,12 @@ use mathlib.Core.List.{List}
 use Rattle.laws.specs.Segment.{OneWay}
 use Rattle.numbers.specs.Interpolation.{distance}
 use Rattle.rules.specs.Curve.{points}
+use Rattle.rules.specs.Quantities.{stressLimits, voidLimits}
 
--- the abscissas go one way, the ordinates do not fall, and no number is out of range
+-- the abscissas go one way, the ordinates do not fall, and no number is out of range (no conductivity passes the greatest stress)
 pub record Smooth (n : ℕ) (xs ys : List ℕ) : Type 0 where
   pub one-way : OneWay (points n xs ys)
   pub apart : (i : ℕ) → i + 1 < n → 0 < distance (getD xs i 0) (getD xs (i + 1) 0)
   pub higher : (i : ℕ) → i + 1 < n → getD ys i 0 ≤ getD ys (i + 1) 0
-  pub abscissa-most : (i : ℕ) → i < n → getD xs i 0 ≤ 1_000_000_000
-  pub ordinate-most : (i : ℕ) → i < n → getD ys i 0 ≤ 2_000_000_000
+  pub abscissa-most : (i : ℕ) → i < n → getD xs i 0 ≤ voidLimits .most
+  pub ordinate-most : (i : ℕ) → i < n → getD ys i 0 ≤ stressLimits .most

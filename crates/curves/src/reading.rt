@@ -4,7 +4,7 @@ ghost use Prim.Native.Nat.{ℕ, _+_, _≤_, _<_};
 ghost use Rattle.curves.specs.Smooth.{Smooth};
 ghost use Rattle.numbers.specs.Interpolation.{distance};
 ghost use Rattle.rules.specs.Curve.{point, points, spans, interpolated, curveAt, isOn, valueOf};
-ghost use Rattle.rules.specs.Quantities.{stressLimits, voidLimits};
+ghost use Rattle.rules.specs.Quantities.{stressLimits, voidLimits, curveLimits};
 use rules::quantities::CurveValue;
 
 // What a reading found, and the segment where it looked last: a hint for the next reading.
@@ -36,7 +36,7 @@ pub fn interpolated(x0: u64, y0: u64, x1: u64, y1: u64, x: u64) -> u64
 
 // What the curve gives at x, by the first segment that spans it.
 pub fn read_from_first<'a>(n: usize, xs: &'a [u64; 64], ys: &'a [u64; 64], x: u64) -> Found
-    requires { ⌜ (2 ≤ n) × (n ≤ 64) ⌝ }
+    requires { ⌜ (curveLimits .least ≤ n) × (n ≤ curveLimits .most) ⌝ }
     requires { ⌜ Smooth n (now xs) (now ys) ⌝ }
     ensures { λ r. ⌜ (r .value ≡ curveAt (points n (now (xs .entry)) (now (ys .entry))) x) × (r .segment + 1 < n) ⌝ }
 {
@@ -58,7 +58,7 @@ pub fn read_from_first<'a>(n: usize, xs: &'a [u64; 64], ys: &'a [u64; 64], x: u6
 
 // What the curve gives at x, whatever segment the hint names.
 pub fn read<'a>(n: usize, xs: &'a [u64; 64], ys: &'a [u64; 64], x: u64, hint: usize) -> Found
-    requires { ⌜ (2 ≤ n) × (n ≤ 64) ⌝ }
+    requires { ⌜ (curveLimits .least ≤ n) × (n ≤ curveLimits .most) ⌝ }
     requires { ⌜ Smooth n (now xs) (now ys) ⌝ }
     ensures { λ r. ⌜ (r .value ≡ curveAt (points n (now (xs .entry)) (now (ys .entry))) x) × (r .segment + 1 < n) ⌝ }
 {

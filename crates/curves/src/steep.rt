@@ -4,7 +4,7 @@ ghost use mathlib.Core.Path.{_≡_};
 ghost use Prim.Native.Nat.{_+_, _-_, _≤_, _<_};
 ghost use Rattle.numbers.specs.Rounding.{ceil};
 ghost use Rattle.rules.specs.Curve.{points, compressibilitySound, steepness};
-ghost use Rattle.rules.specs.Quantities.{stressLimits, voidLimits};
+ghost use Rattle.rules.specs.Quantities.{stressLimits, voidLimits, curveLimits};
 
 // The steepness of one segment.
 pub fn segment_steepness(void0: u64, stress0: u64, void1: u64, stress1: u64) -> u64
@@ -17,7 +17,7 @@ pub fn segment_steepness(void0: u64, stress0: u64, void1: u64, stress1: u64) -> 
 
 // The steepness of the whole curve.
 pub fn steepness<'a>(n: usize, void: &'a [u64; 64], stress: &'a [u64; 64]) -> u64
-    requires { ⌜ n ≤ 64 ⌝ }
+    requires { ⌜ n ≤ curveLimits .most ⌝ }
     requires { ⌜ compressibilitySound (points n (now void) (now stress)) ≡ true ⌝ }
     ensures { λ r. ⌜ r ≡ steepness (points n (now (void .entry)) (now (stress .entry))) ⌝ }
 {

@@ -11,7 +11,7 @@ ghost use Rattle.numbers.specs.Rounding.{cut};
 ghost use Rattle.rules.specs.Curve.{points, compressibilitySound};
 ghost use Rattle.rules.specs.Layer.{voidRatio, effectiveStress, buoyantWeight, sensitivity, excessUnder, resistanceWith};
 ghost use Rattle.rules.specs.Step.{outward};
-ghost use Rattle.rules.specs.Quantities.{stressLimits, conductivityLimits, solidsLimits, waterLimits, stepLimits, gravityLimits, pressure};
+ghost use Rattle.rules.specs.Quantities.{stressLimits, conductivityLimits, solidsLimits, waterLimits, stepLimits, gravityLimits, curveLimits, pressure};
 use curves::reading;
 use curves::reading::Found;
 use rules::quantities::Face;
@@ -37,7 +37,7 @@ pub fn effective_stress<'a>(
     hint: usize,
 ) -> Found
     requires { ⌜ (0 < solids) × (water ≤ waterLimits .most) ⌝ }
-    requires { ⌜ (2 ≤ m) × (m ≤ 64) ⌝ }
+    requires { ⌜ (curveLimits .least ≤ m) × (m ≤ curveLimits .most) ⌝ }
     requires { ⌜ compressibilitySound (points m (now void) (now stress)) ≡ true ⌝ }
     ensures { λ r. ⌜ (r .value ≡ effectiveStress (points m (now (void .entry)) (now (stress .entry))) solids water) × (r .segment + 1 < m) ⌝ }
 {

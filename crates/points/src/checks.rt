@@ -6,7 +6,7 @@ ghost use Prim.Native.Nat.{ℕ, _+_, _≤_, _<_};
 ghost use Rattle.points.specs.Checks.{pointKept, trendKept};
 ghost use Rattle.numbers.specs.Lists.{all, neighbours};
 ghost use Rattle.rules.specs.Curve.{point, points, rising, covers, compressibilitySound, conductivitySound};
-ghost use Rattle.rules.specs.Quantities.{limitsOf};
+ghost use Rattle.rules.specs.Quantities.{curveLimits, limitsOf};
 use rules::quantities;
 use rules::quantities::Kind;
 
@@ -73,7 +73,7 @@ pub fn neighbours_kept<'a>(trend: Trend, n: usize, xs: &'a [u64; 64], ys: &'a [u
 
 // Cause 6: whether the compressibility curve is sound.
 pub fn compressibility_sound<'a>(n: usize, void: &'a [u64; 64], stress: &'a [u64; 64]) -> bool
-    requires { ⌜ n ≤ 64 ⌝ }
+    requires { ⌜ n ≤ curveLimits .most ⌝ }
     ensures { λ r. ⌜ r ≡ compressibilitySound (points n (now (void .entry)) (now (stress .entry))) ⌝ }
 {
     points_kept(n, void, stress, Kind::Void, Kind::Stress)
@@ -88,8 +88,8 @@ pub fn covers<'a>(
     first_n: usize,
     first_void: &'a [u64; 64],
 ) -> bool
-    requires { ⌜ (2 ≤ n) × (n ≤ 64) ⌝ }
-    requires { ⌜ «first_n» ≤ 64 ⌝ }
+    requires { ⌜ (curveLimits .least ≤ n) × (n ≤ curveLimits .most) ⌝ }
+    requires { ⌜ «first_n» ≤ curveLimits .most ⌝ }
     requires { ⌜ rising (points n (now void) (now conductivity)) ≡ true ⌝ }
     ensures { λ r. ⌜ ((stress : List ℕ) → r ≡ covers (points n (now (void .entry)) (now (conductivity .entry))) (points «first_n» (now («first_void» .entry)) stress)) ⌝ }
 {
@@ -115,8 +115,8 @@ pub fn conductivity_sound<'a>(
     first_void: &'a [u64; 64],
     first_stress: &'a [u64; 64],
 ) -> bool
-    requires { ⌜ (2 ≤ n) × (n ≤ 64) ⌝ }
-    requires { ⌜ «first_n» ≤ 64 ⌝ }
+    requires { ⌜ (curveLimits .least ≤ n) × (n ≤ curveLimits .most) ⌝ }
+    requires { ⌜ «first_n» ≤ curveLimits .most ⌝ }
     ensures { λ r. ⌜ r ≡ conductivitySound (points n (now (void .entry)) (now (conductivity .entry))) (points «first_n» (now («first_void» .entry)) (now («first_stress» .entry))) ⌝ }
 {
     if !points_kept(n, void, conductivity, Kind::Void, Kind::Conductivity) {

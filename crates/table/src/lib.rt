@@ -9,7 +9,7 @@ ghost use Rattle.numbers.specs.Interval.{Within};
 ghost use Rattle.numbers.specs.Rounding.{cut};
 ghost use Rattle.rules.specs.Curve.{points};
 ghost use Rattle.rules.specs.Load.{tableSound, loadAt, nextTime};
-ghost use Rattle.rules.specs.Quantities.{stressLimits, clockLimits, pressure};
+ghost use Rattle.rules.specs.Quantities.{stressLimits, clockLimits, tableLimits, pressure};
 use points::checks;
 use points::checks::Trend;
 use rules::quantities::Kind;
@@ -17,7 +17,7 @@ use rules::quantities::Pressure;
 
 // Whether the first time is 0, times strictly rise, and times and loads keep their limits.
 pub fn table_sound<'a>(n: usize, time: &'a [u64; 64], load: &'a [u64; 64]) -> bool
-    requires { ⌜ n ≤ 64 ⌝ }
+    requires { ⌜ n ≤ tableLimits .most ⌝ }
     ensures { λ r. ⌜ r ≡ tableSound (points n (now (time .entry)) (now (load .entry))) ⌝ }
 {
     if n > 0 && time[0] != 0 {
@@ -50,7 +50,7 @@ pub fn load_between(time0: u64, load0: u64, time1: u64, load1: u64, clock: u64) 
 
 // The load of a sound table at a time: a stress within its limits.
 pub fn load_at<'a>(n: usize, time: &'a [u64; 64], load: &'a [u64; 64], clock: u64) -> Pressure
-    requires { ⌜ (1 ≤ n) × (n ≤ 64) ⌝ }
+    requires { ⌜ (tableLimits .least ≤ n) × (n ≤ tableLimits .most) ⌝ }
     requires { ⌜ tableSound (points n (now time) (now load)) ≡ true ⌝ }
     ensures { λ r. ⌜ r ≡ pressure (loadAt (points n (now (time .entry)) (now (load .entry))) clock) ⌝ }
     ensures { λ r. ⌜ (pos 0 ≤ℤ r .0) × (r .0 ≤ℤ pos (stressLimits .most)) ⌝ }
@@ -67,7 +67,7 @@ pub fn load_at<'a>(n: usize, time: &'a [u64; 64], load: &'a [u64; 64], clock: u6
 
 // The first table time after a time, or another time where there is none: the loads do not matter.
 pub fn next_time(n: usize, time: &[u64; 64], clock: u64, otherwise: u64) -> u64
-    requires { ⌜ n ≤ 64 ⌝ }
+    requires { ⌜ n ≤ tableLimits .most ⌝ }
     ensures { λ r. ⌜ ((load : List ℕ) → r ≡ nextTime (points n (now (time .entry)) load) clock otherwise) ⌝ }
 {
     let mut i: usize = 0;

@@ -4,6 +4,7 @@ use mathlib.Core.Path.{_≡_, ap}
 use Rattle.numbers.specs.Interpolation.{distance, share}
 use Rattle.numbers.specs.Share.{interpolates}
 use Rattle.rules.specs.Curve.{interpolated}
+use Rattle.rules.specs.Quantities.{stressLimits, voidLimits}
 use native.Mathlib.Omega.{arith}
 use borrow.Author.Needs.{needs}
 use Rattle.curves.proofs.reading.interpolated.Statement.{statement}
@@ -22,8 +23,8 @@ module _ (c : tie.Start) where
   abbrev part : ℕ
   part = distance (c .args .x0) (c .args .x)
 
-  product : (c .args .y1 - c .args .y0) * part ≤ 2_000_000_000_000_000_000
-  product = mul-le-mul {n₁ = c .args .y1 - c .args .y0} {m₁ = part} {n₂ = 2_000_000_000} {m₂ = 1_000_000_000} (omega arith) (omega arith)
+  product : (c .args .y1 - c .args .y0) * part ≤ stressLimits .most * voidLimits .most
+  product = mul-le-mul {n₁ = c .args .y1 - c .args .y0} {m₁ = part} {n₂ = stressLimits .most} {m₂ = voidLimits .most} (omega arith) (omega arith)
 
   within : share (c .args .y1 - c .args .y0) part (distance (c .args .x0) (c .args .x1)) ≤ c .args .y1 - c .args .y0
   within = interpolates (c .args .y1 - c .args .y0) (distance (c .args .x0) (c .args .x1)) (c .pre .0 .0) .between part (c .pre .1 .1)
