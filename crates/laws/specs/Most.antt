@@ -1,7 +1,7 @@
 -- The most that can be read of a layer whose numbers keep their limits. Where a number is written out, the comment has
 -- what it is rounded up from.
 use Prim.Native.Nat.{ℕ, _+_, _*_, _-_, _/_}
-use Rattle.rules.specs.Quantities.{elementLimits, gravityLimits, solidsLimits, stepLimits, voidUnit}
+use Rattle.rules.specs.Quantities.{stressLimits, solidsLimits, stepLimits, gravityLimits, elementLimits, voidUnit}
 
 -- the buoyant weight of the most solids with the greatest gravity
 abbrev pub mostWeight : ℕ
@@ -34,6 +34,10 @@ mostFaceResistance = 11_000_000_000_000
 -- c: of a nanometre of solids
 abbrev pub mostSensitivity : ℕ
 mostSensitivity = voidUnit
+
+-- 2cG, by which a resistance is divided: no curve is steeper than its greatest stress
+abbrev pub mostDivisor : ℕ
+mostDivisor = 2 * mostSensitivity * stressLimits .most
 
 -- through a face: the greatest difference over the longest step
 abbrev pub mostFlow : ℕ

@@ -9,20 +9,22 @@ use mathlib.Core.List.{List, [], _∷_}
 use mathlib.Core.Path.{_≡_, sym, ap, _∙_}
 use Rattle.laws.specs.Contacts.{Limiting, every-contact}
 use Rattle.laws.specs.Every.{Every, every-tabulate}
+use Rattle.laws.specs.Most.{mostSensitivity, mostDivisor}
 use Rattle.laws.specs.Shorten.{shortened, shortened-append, greatest-shortened, too-long-shortened, inner-shortened}
 use Rattle.element.specs.Elements.{elementOf, elementIn, elementsIn}
 use Rattle.reach.specs.Reach.{Limited, touching, isTooLong, longestWithin}
 use Rattle.numbers.specs.Filled.{drop-tabulate, drop-tabulate-end}
 use Rattle.numbers.specs.Rounding.{floor}
 use Rattle.rules.specs.Layer.{Element}
+use Rattle.rules.specs.Quantities.{stressLimits}
 use Rattle.rules.specs.Step.{innerResistance, outerContacts, contactsAbove, contacts}
 use Rattle.rules.specs.declared.quantities.Face.{Face}
 
 -- what a resistance is divided by is positive and fits
-pub divisor-range : (c K : ℕ) → 0 < c → c ≤ 100_000_000 → 0 < K → K ≤ 2_000_000_000 →
-    (0 < 2 * c * K) × (2 * c * K ≤ 400_000_000_000_000_000)
+pub divisor-range : (c K : ℕ) → 0 < c → c ≤ mostSensitivity → 0 < K → K ≤ stressLimits .most →
+    (0 < 2 * c * K) × (2 * c * K ≤ mostDivisor)
 divisor-range c K p h q k =
-    (mul-pos (omega arith) q, mul-le-mul {n₁ = 2 * c} {m₁ = K} {n₂ = 200_000_000} {m₂ = 2_000_000_000} (omega arith) k)
+    (mul-pos (omega arith) q, mul-le-mul {n₁ = 2 * c} {m₁ = K} {n₂ = 2 * mostSensitivity} {m₂ = stressLimits .most} (omega arith) k)
 
 module _ (top bottom : Face) (K : ℕ) (slope : 0 < K) (n : ℕ) (resistance sensitivity : List ℕ) (limited : Limited n resistance sensitivity) where
   abbrev es : List Element

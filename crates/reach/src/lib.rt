@@ -11,12 +11,12 @@ ghost use Rattle.numbers.specs.Arrays.{filled};
 ghost use Rattle.numbers.specs.Rounding.{floor};
 ghost use Rattle.rules.specs.Layer as layer;
 ghost use Rattle.rules.specs.Step.{outerContacts};
-ghost use Rattle.rules.specs.Quantities.{solidsLimits, stressLimits, stepLimits};
+ghost use Rattle.rules.specs.Quantities.{solidsLimits, stressLimits, stepLimits, elementLimits};
 use rules::quantities::Face;
 
 // The sensitivity of every element.
 pub fn sensitivities<'a>(n: usize, solids: &'a [u64; 128], sensitivity: &mut [u64; 128])
-    requires { ⌜ n ≤ 128 ⌝ }
+    requires { ⌜ n ≤ elementLimits .most ⌝ }
     requires { ⌜ ((j : ℕ) → j < n → (0 < getD (now solids) j 0) × (getD (now solids) j 0 ≤ solidsLimits .most)) ⌝ }
     requires { ⌜ length (now sensitivity) ≡ 128 ⌝ }
     ensures { λ _. ⌜ now (sensitivity .exit) ≡ filled (now (sensitivity .entry)) n (λ j. layer.sensitivity (getD (now (solids .entry)) j 0)) ⌝ }
@@ -80,7 +80,7 @@ pub fn longest<'a>(
     sensitivity: &'a [u64; 128],
     most: u64,
 ) -> u64
-    requires { ⌜ (0 < n) × (n ≤ 128) ⌝ }
+    requires { ⌜ (0 < n) × (n ≤ elementLimits .most) ⌝ }
     requires { ⌜ (0 < slope) × (slope ≤ stressLimits .most) ⌝ }
     requires { ⌜ Limited n (now resistance) (now sensitivity) ⌝ }
     requires { ⌜ most ≤ stepLimits .most ⌝ }
@@ -111,7 +111,7 @@ pub fn too_long<'a>(
     sensitivity: &'a [u64; 128],
     t: u64,
 ) -> bool
-    requires { ⌜ (0 < n) × (n ≤ 128) ⌝ }
+    requires { ⌜ (0 < n) × (n ≤ elementLimits .most) ⌝ }
     requires { ⌜ (0 < slope) × (slope ≤ stressLimits .most) ⌝ }
     requires { ⌜ Limited n (now resistance) (now sensitivity) ⌝ }
     requires { ⌜ t ≤ stepLimits .most ⌝ }

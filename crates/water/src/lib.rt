@@ -9,7 +9,8 @@ ghost use Rattle.water.specs.Water.{newWater, heightAfter, between, stay
 ghost use Rattle.numbers.specs.Arrays.{filled, everyIndex};
 ghost use Rattle.numbers.specs.Interval.{Within};
 ghost use Rattle.laws.specs.Bounds.{lowestWater, highestWater};
-ghost use Rattle.rules.specs.Quantities.{solidsLimits, voidLimits, waterLimits};
+ghost use Rattle.rules.specs.Quantities.{solidsLimits, voidLimits, waterLimits, elementLimits};
+use rules::quantities::Void;
 
 // The water of an element less what leaves it and with what enters.
 pub fn new_water(water: u64, leaves: i64, enters: i64) -> i64
@@ -25,7 +26,7 @@ pub fn lowest_water(solids: u64, void: u64) -> u64
     requires { ⌜ (solids ≤ solidsLimits .most) × (void ≤ voidLimits .most) ⌝ }
     ensures { λ r. ⌜ (r ≡ lowestWater solids void) × (r ≤ waterLimits .most) ⌝ }
 {
-    numbers::ceil(void * solids, 100_000_000)
+    numbers::ceil(void * solids, Void::ONE)
 }
 
 // The most water with which it does not pass a void ratio.
@@ -34,7 +35,7 @@ pub fn highest_water(solids: u64, void: u64) -> u64
     requires { ⌜ void ≤ voidLimits .most ⌝ }
     ensures { λ r. ⌜ (r ≡ highestWater solids void) × (r ≤ waterLimits .most) ⌝ }
 {
-    numbers::floor((void + 1) * solids - 1, 100_000_000)
+    numbers::floor((void + 1) * solids - 1, Void::ONE)
 }
 
 // The bounds of the water of every element, on a curve from a least to a greatest void ratio.
@@ -46,7 +47,7 @@ pub fn water_bounds<'a>(
     low: &mut [u64; 128],
     high: &mut [u64; 128],
 )
-    requires { ⌜ n ≤ 128 ⌝ }
+    requires { ⌜ n ≤ elementLimits .most ⌝ }
     requires { ⌜ ((j : ℕ) → j < n → (0 < getD (now solids) j 0) × (getD (now solids) j 0 ≤ solidsLimits .most)) ⌝ }
     requires { ⌜ (least ≤ voidLimits .most) × (greatest ≤ voidLimits .most) ⌝ }
     requires { ⌜ (length (now low) ≡ 128) × (length (now high) ≡ 128) ⌝ }
@@ -78,7 +79,7 @@ pub fn stays_between<'a>(
     low: &'a [u64; 128],
     high: &'a [u64; 128],
 ) -> bool
-    requires { ⌜ n ≤ 128 ⌝ }
+    requires { ⌜ n ≤ elementLimits .most ⌝ }
     requires { ⌜ Movable n lowest (now above) (now water) ⌝ }
     requires { ⌜ ((j : ℕ) → j < n → (getD (now low) j 0 ≤ waterLimits .most) × (getD (now high) j 0 ≤ waterLimits .most)) ⌝ }
     ensures { λ r. ⌜ r ≡ everyIndex n (staysAt lowest (now (above .entry)) (now (water .entry)) (now (low .entry)) (now (high .entry))) ⌝ }
@@ -98,7 +99,7 @@ pub fn stays_between<'a>(
 
 // Moves the water of every element, where no new height is negative.
 pub fn move_water<'a>(n: usize, lowest: i64, above: &'a [i64; 128], water: &mut [u64; 128])
-    requires { ⌜ n ≤ 128 ⌝ }
+    requires { ⌜ n ≤ elementLimits .most ⌝ }
     requires { ⌜ Movable n lowest (now above) (now water) ⌝ }
     requires { ⌜ ((j : ℕ) → j < n → pos 0 ≤ℤ newWater lowest (now above) (now water) j) ⌝ }
     requires { ⌜ length (now water) ≡ 128 ⌝ }

@@ -2,10 +2,12 @@ use Prim.Native.Nat.{ℕ, _+_, _-_, _≤_, _<_}
 use lib.ListN.{getD, drop}
 use mathlib.Core.List.{[]}
 use mathlib.Core.Path.{_≡_, refl, sym, ap, _∙_}
+use Rattle.laws.specs.Most.{mostFaceResistance, mostSensitivity}
 use Rattle.laws.specs.Shorten.{shortened}
 use Rattle.element.specs.Elements.{elementsIn}
 use Rattle.reach.specs.Reach.{Limited, longestWithin}
 use Rattle.reach.proofs.ReachAt.{longest-is, from-bottom, at-inner, at-top}
+use Rattle.rules.specs.Quantities.{stressLimits, stepLimits}
 use Rattle.rules.specs.Step.{contactsAbove}
 use native.Mathlib.Omega.{arith}
 use Rattle.reach.proofs.longest.Statement.{statement}
@@ -13,7 +15,7 @@ use Rattle.reach.proofs.longest.Tie as tie
 
 abbrev Inv-loop : tie.InvT-loop
 Inv-loop n top slope resistance sensitivity most t₀ j₀ t j =
-    (j < n) × (t ≤ 1_000_000) ×
+    (j < n) × (t ≤ stepLimits .most) ×
     (shortened slope t (contactsAbove top (drop j (elementsIn n [] resistance sensitivity))) ≡
     shortened slope t₀ (contactsAbove top (drop 0 (elementsIn n [] resistance sensitivity))))
 
@@ -24,10 +26,10 @@ limited : (s : tie.Start Inv-loop μ-loop) → Limited (s .args .n) (s .args .re
 limited s = s .pre .1 .1 .0
 
 -- what shortening for an outer face needs
-ranges : (s : tie.Start Inv-loop μ-loop) (t j : ℕ) → t ≤ 1_000_000 → j < s .args .n →
-    (t ≤ 1_000_000) × (((0 < s .args .slope) × (s .args .slope ≤ 2_000_000_000)) ×
-    (((0 < getD (s .args .sensitivity .now) j 0) × (getD (s .args .sensitivity .now) j 0 ≤ 100_000_000)) ×
-    (getD (s .args .resistance .now) j 0 ≤ 11_000_000_000_000)))
+ranges : (s : tie.Start Inv-loop μ-loop) (t j : ℕ) → t ≤ stepLimits .most → j < s .args .n →
+    (t ≤ stepLimits .most) × (((0 < s .args .slope) × (s .args .slope ≤ stressLimits .most)) ×
+    (((0 < getD (s .args .sensitivity .now) j 0) × (getD (s .args .sensitivity .now) j 0 ≤ mostSensitivity)) ×
+    (getD (s .args .resistance .now) j 0 ≤ mostFaceResistance)))
 ranges s t j short h =
     let of = limited s in
     (short, (s .pre .1 .0, ((of .sensitivity-positive j h, of .sensitivity-most j h), omega (arith, of .resistance-most j h))))
@@ -54,7 +56,7 @@ module _ (l : tie.At-loop Inv-loop μ-loop) where
   abbrev r : ℕ → ℕ
   r i = getD (s .args .resistance .now) i 0
 
-  sum-most : j + 1 < s .args .n → r j + r (j + 1) ≤ 11_000_000_000_000
+  sum-most : j + 1 < s .args .n → r j + r (j + 1) ≤ mostFaceResistance
   sum-most h = omega (arith, limited s .resistance-most j (omega arith), limited s .resistance-most (j + 1) h)
 
 element-copy-out-shorten-outer : tie.Need-element-copy-out-shorten-outer Inv-loop μ-loop

@@ -3,8 +3,10 @@ use native.Mathlib.Nat.{mul-le-mul, div-lt-iff-lt-mul}
 use native.Mathlib.Omega.{arith}
 use borrow.Author.Needs.{needs}
 use mathlib.Core.Path.{_∙_}
+use Rattle.laws.specs.Most.{mostFaceResistance}
 use Rattle.laws.specs.Shorten.{divided, undivided}
 use Rattle.numbers.specs.Rounding.{floor}
+use Rattle.rules.specs.Quantities.{stepLimits}
 use Rattle.reach.proofs.shorten.Statement.{statement}
 use Rattle.reach.proofs.shorten.Tie as tie
 
@@ -19,7 +21,7 @@ mul-if2 : tie.Need-mul-if2
 mul-if2 c =
     omega (
       arith,
-      mul-le-mul {n₁ = c .before .args .divisor} {m₁ = c .before .args .t} {n₂ = 11_000_000_000_000} {m₂ = 1_000_000} (omega arith) (omega arith),
+      mul-le-mul {n₁ = c .before .args .divisor} {m₁ = c .before .args .t} {n₂ = mostFaceResistance} {m₂ = stepLimits .most} (omega arith) (omega arith),
     )
 
 floor-requires : tie.Need-floor-requires

@@ -2,12 +2,13 @@ use Prim.Native.Nat.{ℕ, _*_, _≤_, _<_, min}
 use native.Mathlib.Omega.{arith}
 use borrow.Author.Needs.{needs}
 use mathlib.Core.Path.{ap, _∙_}
+use Rattle.laws.specs.Most.{mostDivisor}
 use Rattle.reach.proofs.ReachAt.{divisor-range}
 use Rattle.numbers.specs.Rounding.{floor}
 use Rattle.reach.proofs.shorten_inner.Statement.{statement}
 use Rattle.reach.proofs.shorten_inner.Tie as tie
 
-divided-by : (c : tie.After-greater) → let d = 2 * c .greater .result * c .before .args .slope in (0 < d) × (d ≤ 400_000_000_000_000_000)
+divided-by : (c : tie.After-greater) → let d = 2 * c .greater .result * c .before .args .slope in (0 < d) × (d ≤ mostDivisor)
 divided-by c =
     let (below, (above, _)) = c .before .pre .1 .1 in
     let one = c .greater .ensures in

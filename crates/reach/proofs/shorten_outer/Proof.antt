@@ -3,13 +3,14 @@ use native.Mathlib.Nat.{le-refl}
 use native.Mathlib.Omega.{arith}
 use borrow.Author.Needs.{needs}
 use mathlib.Core.Path.{refl}
+use Rattle.laws.specs.Most.{mostDivisor}
 use Rattle.reach.proofs.ReachAt.{divisor-range}
 use Rattle.laws.specs.Shorten.{shortened}
 use Rattle.rules.specs.Step.{outerResistance, outerContacts}
 use Rattle.reach.proofs.shorten_outer.Statement.{statement}
 use Rattle.reach.proofs.shorten_outer.Tie as tie
 
-divided-by : (s : tie.Start) → let d = 2 * s .args .sensitivity * s .args .slope in (0 < d) × (d ≤ 400_000_000_000_000_000)
+divided-by : (s : tie.Start) → let d = 2 * s .args .sensitivity * s .args .slope in (0 < d) × (d ≤ mostDivisor)
 divided-by s =
     let (slope, (sensitivity, _)) = s .pre .1 in
     divisor-range (s .args .sensitivity) (s .args .slope) (sensitivity .0) (sensitivity .1) (slope .0) (slope .1)

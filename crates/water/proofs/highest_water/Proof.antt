@@ -1,13 +1,14 @@
 use Prim.Native.Nat.{_+_, _*_, _≤_}
 use native.Mathlib.Nat.{mul-le-mul}
 use Rattle.laws.specs.Bounds.{highestWater}
+use Rattle.rules.specs.Quantities.{voidLimits, solidsLimits}
 use native.Mathlib.Omega.{arith}
 use borrow.Author.Needs.{needs}
 use Rattle.water.proofs.highest_water.Statement.{statement}
 use Rattle.water.proofs.highest_water.Tie as tie
 
-product : (s : tie.Start) → (s .args .void + 1) * s .args .solids ≤ 100_000_000_100_000_000
-product s = mul-le-mul {n₁ = s .args .void + 1} {m₁ = s .args .solids} {n₂ = 1_000_000_001} {m₂ = 100_000_000} (omega arith) (omega arith)
+product : (s : tie.Start) → (s .args .void + 1) * s .args .solids ≤ (voidLimits .most + 1) * solidsLimits .most
+product s = mul-le-mul {n₁ = s .args .void + 1} {m₁ = s .args .solids} {n₂ = voidLimits .most + 1} {m₂ = solidsLimits .most} (omega arith) (omega arith)
 
 add-floor : tie.Need-add-floor
 add-floor c = search needs

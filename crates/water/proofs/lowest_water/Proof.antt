@@ -1,12 +1,13 @@
 use Prim.Native.Nat.{_*_, _≤_}
 use native.Mathlib.Nat.{mul-le-mul}
 use Rattle.laws.specs.Bounds.{lowestWater}
+use Rattle.rules.specs.Quantities.{voidLimits, solidsLimits}
 use native.Mathlib.Omega.{arith}
 use Rattle.water.proofs.lowest_water.Statement.{statement}
 use Rattle.water.proofs.lowest_water.Tie as tie
 
-product : (s : tie.Start) → s .args .void * s .args .solids ≤ 100_000_000_000_000_000
-product s = mul-le-mul {n₁ = s .args .void} {m₁ = s .args .solids} {n₂ = 1_000_000_000} {m₂ = 100_000_000} (omega arith) (omega arith)
+product : (s : tie.Start) → s .args .void * s .args .solids ≤ voidLimits .most * solidsLimits .most
+product s = mul-le-mul {n₁ = s .args .void} {m₁ = s .args .solids} {n₂ = voidLimits .most} {m₂ = solidsLimits .most} (omega arith) (omega arith)
 
 mul-ceil : tie.Need-mul-ceil
 mul-ceil c = omega (arith, product c)

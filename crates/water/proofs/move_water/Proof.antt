@@ -11,6 +11,7 @@ use mir.Syntax.{w64}
 use mir.Val.{SFits, ofZ, toZ}
 use Rattle.water.specs.Water.{newWater, heightAfter, Movable}
 use Rattle.water.proofs.WaterAt.{entering, new-height}
+use Rattle.element.specs.Elements.{mostFlow}
 use Rattle.numbers.specs.Arrays.{filled}
 use Rattle.numbers.specs.Filled.{filled-zero, filled-store, filled-done, getD-filled-past}
 use Rattle.numbers.specs.Interval.{Within, within-fits}
@@ -60,7 +61,7 @@ module _ (l : tie.At-loop Inv-loop μ-loop) where
   here : getD (l .loop .water) j 0 ≡ getD water j 0
   here = ap (λ (w : List ℕ). getD w j 0) moved ∙ getD-filled-past water j new j 0 (le-refl j)
 
-  enters-within : j < s .args .n → Within (getD (lowest ∷ above) j (pos 0)) 10_000_000_000_000_000
+  enters-within : j < s .args .n → Within (getD (lowest ∷ above) j (pos 0)) mostFlow
   enters-within h = entering (s .args .n) lowest above water movable j h
 
   above-fits : j < s .args .n → SFits w64 (getD above j (pos 0))

@@ -1,11 +1,14 @@
+use Prim.Native.Nat.{_+_}
 use native.Mathlib.Omega.{arith}
 use borrow.Author.Needs.{needs}
 use lib.IntN.{pos, _+ℤ_, _-ℤ_}
 use mathlib.Core.Path.{_≡_}
 use mir.Syntax.{w64}
 use mir.Val.{SFits, toZ}
+use Rattle.element.specs.Elements.{mostFlow}
 use Rattle.numbers.specs.Interval.{Within, within-add, within-sub, within-le, within-pos, within-fits}
 use Rattle.numbers.specs.Signed.{readBack, readUnsigned}
+use Rattle.rules.specs.Quantities.{waterLimits}
 use Rattle.water.proofs.new_water.Statement.{statement}
 use Rattle.water.proofs.new_water.Tie as tie
 
@@ -13,8 +16,8 @@ module _ (c : tie.Start) where
   water-is : toZ w64 (c .args .water) ≡ pos (c .args .water)
   water-is = readUnsigned (c .args .water) (omega arith)
 
-  less : Within (pos (c .args .water) -ℤ c .args .leaves) 10_000_001_000_000_000
-  less = within-sub (within-le {n = 1_000_000_000} (within-pos (c .args .water)) (omega arith)) (c .pre .1 .0)
+  less : Within (pos (c .args .water) -ℤ c .args .leaves) (waterLimits .most + mostFlow)
+  less = within-sub (within-le {n = waterLimits .most} (within-pos (c .args .water)) (omega arith)) (c .pre .1 .0)
 
   less-fits : SFits w64 (pos (c .args .water) -ℤ c .args .leaves)
   less-fits = within-fits tt less

@@ -11,6 +11,7 @@ use mir.Syntax.{w64}
 use mir.Val.{SFits, ofZ, toZ}
 use Rattle.water.specs.Water.{between, staysAt, Movable}
 use Rattle.water.proofs.WaterAt.{entering}
+use Rattle.element.specs.Elements.{mostFlow}
 use Rattle.numbers.specs.Arrays.{everyIndex}
 use Rattle.numbers.specs.Indices.{restPasses, all-rest, index-fails, index-goes, index-ends}
 use Rattle.numbers.specs.Interval.{Within, within-fits}
@@ -55,7 +56,7 @@ module _ (l : tie.At-loop Inv-loop μ-loop) where
   rest = simp back at (l .loop .inv .2)
 
   -- what enters is the flow of the face below
-  enters-within : j < s .args .n → Within (getD (lowest ∷ above) j (pos 0)) 10_000_000_000_000_000
+  enters-within : j < s .args .n → Within (getD (lowest ∷ above) j (pos 0)) mostFlow
   enters-within h = entering (s .args .n) lowest above (s .args .water .now) movable j h
 
   above-fits : j < s .args .n → SFits w64 (getD above j (pos 0))
