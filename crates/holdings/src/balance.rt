@@ -7,14 +7,14 @@ ghost use Rattle.numbers.specs.Arrays.{firstPlaces};
 ghost use Rattle.numbers.specs.Integers.{eqℤ};
 ghost use Rattle.numbers.specs.Interval.{Within};
 ghost use Rattle.numbers.specs.Sums.{sum};
-ghost use Rattle.rules.specs.Quantities.{clockLimits, waterLimits, startingWaterLimits, outflowRate};
+ghost use Rattle.rules.specs.Quantities.{clockLimits, waterLimits, elementLimits, startingWaterLimits, mostOutflow};
 ghost use Rattle.rules.specs.Record.{outflowSound};
 use rules::quantities::Clock;
 use rules::quantities::Outflow;
 
 // All water of the first n elements.
 pub fn total_water(n: usize, water: &[u64; 128]) -> u64
-    requires { ⌜ n ≤ 128 ⌝ }
+    requires { ⌜ n ≤ elementLimits .most ⌝ }
     requires { ⌜ ((j : ℕ) → j < n → getD (now water) j 0 ≤ waterLimits .most) ⌝ }
     ensures { λ r. ⌜ (r ≡ sum (firstPlaces n (now (water .entry)))) × (r ≤ startingWaterLimits .most) ⌝ }
 {
@@ -47,7 +47,7 @@ pub fn settlement(starting: u64, left: u64) -> i64
 // Whether the water balances.
 pub fn balances(starting: u64, left: u64, top_outflow: Outflow, bottom_outflow: Outflow) -> bool
     requires { ⌜ (starting ≤ startingWaterLimits .most) × (left ≤ startingWaterLimits .most) ⌝ }
-    requires { ⌜ Within («top_outflow» .0) (outflowRate * clockLimits .most) ⌝ }
+    requires { ⌜ Within («top_outflow» .0) mostOutflow ⌝ }
     ensures { λ r. ⌜ r ≡ eqℤ (pos starting) (pos left +ℤ «top_outflow» .0 +ℤ «bottom_outflow» .0) ⌝ }
 {
     settlement(starting, left) - top_outflow.0 == bottom_outflow.0

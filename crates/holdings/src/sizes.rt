@@ -4,7 +4,7 @@ ghost use Prim.Native.Nat.{_≤_};
 ghost use Rattle.numbers.specs.Arrays.{firstPlaces};
 ghost use Rattle.numbers.specs.Lists.{all};
 ghost use Rattle.rules.specs.Layer.{Site};
-ghost use Rattle.rules.specs.Quantities.{within, limitsOf};
+ghost use Rattle.rules.specs.Quantities.{within, elementLimits, limitsOf};
 ghost use Rattle.rules.specs.Record.{sizesSound};
 use crate::faces;
 use rules::quantities::Face;
@@ -13,7 +13,7 @@ use rules::quantities::Kind;
 
 // Whether the first n numbers keep the limits of a kind.
 pub fn all_within(n: usize, kind: Kind, numbers: &[u64; 128]) -> bool
-    requires { ⌜ n ≤ 128 ⌝ }
+    requires { ⌜ n ≤ elementLimits .most ⌝ }
     ensures { λ r. ⌜ r ≡ all (within (limitsOf kind)) (firstPlaces n (now (numbers .entry))) ⌝ }
 {
     let mut j: usize = 0;
@@ -35,7 +35,7 @@ pub fn sizes_sound<'a>(
     solids: &'a [u64; 128],
     water: &'a [u64; 128],
 ) -> bool
-    requires { ⌜ n ≤ 128 ⌝ }
+    requires { ⌜ n ≤ elementLimits .most ⌝ }
     ensures { λ r. ⌜ ((site : Site) → site .topLevel ≡ «top_level» .0 → site .bottomLevel ≡ «bottom_level» .0 → site .bottom ≡ bottom → site .solids ≡ firstPlaces n (now (solids .entry)) → r ≡ sizesSound site (firstPlaces n (now (water .entry)))) ⌝ }
 {
     top_level.is_level()

@@ -7,6 +7,10 @@ use Rattle.rules.specs.Quantities.{stressLimits, solidsLimits, stepLimits, grav
 abbrev pub mostWeight : ℕ
 mostWeight = solidsLimits .most * (gravityLimits .most - 1_000) * 9_810 / 1_000_000_000
 
+-- of as many elements as there can be
+abbrev pub mostTotalWeight : ℕ
+mostTotalWeight = elementLimits .most * mostWeight
+
 -- B: 127 elements of the greatest weight over half of one
 abbrev pub sharpBurden : ℕ
 sharpBurden = (elementLimits .most - 1) * mostWeight + mostWeight / 2

@@ -10,6 +10,7 @@ use Rattle.layer.specs.Soil.{Soil, OnSoil}
 use Rattle.numbers.specs.Searches.{passed}
 use Rattle.rules.specs.Curve.{points, curveAt, isOn, valueOf}
 use Rattle.rules.specs.Layer.{voidRatio, effectiveStress, hydraulicConductivity}
+use Rattle.rules.specs.Quantities.{stressLimits, conductivityLimits, waterLimits}
 
 module _ (m : ℕ) (void stress : List ℕ) (n : ℕ) (conductivityVoid conductivity : List ℕ) (soil : Soil m void stress n conductivityVoid conductivity)
     (load : ℤ) (B S W : ℕ) (on : OnSoil m void stress load B S W) where
@@ -17,17 +18,17 @@ module _ (m : ℕ) (void stress : List ℕ) (n : ℕ) (conductivityVoid conducti
   unfolding effectiveStress
   is-on = passed (on .on-curve)
 
-  pub water-most : W ≤ 1_000_000_000
+  pub water-most : W ≤ waterLimits .most
   water-most =
       water-on-curve S (on .solids-positive) (points m void stress) W (on .solids-most) (passed (soil .compressibility-sound)) is-on
 
-  pub stress-most : valueOf (effectiveStress (points m void stress) S W) ≤ 2_000_000_000
+  pub stress-most : valueOf (effectiveStress (points m void stress) S W) ≤ stressLimits .most
   unfolding effectiveStress
   stress-most = Excess.stress-most (points m void stress) (passed (soil .compressibility-sound)) (voidRatio S W)
 
   -- what is on the first curve is on the second
   pub conductivity-range : (0 < valueOf (hydraulicConductivity (points n conductivityVoid conductivity) S W)) ×
-      (valueOf (hydraulicConductivity (points n conductivityVoid conductivity) S W) ≤ 1_000_000_000)
+      (valueOf (hydraulicConductivity (points n conductivityVoid conductivity) S W) ≤ conductivityLimits .most)
   unfolding hydraulicConductivity
   conductivity-range =
       let first = points m void stress in

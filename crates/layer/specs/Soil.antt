@@ -7,16 +7,16 @@ use mathlib.Core.Path.{_≡_}
 use Rattle.laws.specs.Amid.{Between}
 use lib.ListN.{getD}
 use Rattle.element.specs.Elements.{mostBurden}
-use Rattle.rules.specs.Quantities.{stressLimits, solidsLimits}
+use Rattle.rules.specs.Quantities.{stressLimits, solidsLimits, curveLimits}
 use Rattle.rules.specs.Curve.{Point, points, isOn, compressibilitySound, conductivitySound}
 use Rattle.rules.specs.Layer.{effectiveStress, excessPressure, resistance}
 
--- both curves as arrays, each with 2 to 64 points
+-- both curves as arrays, with a count of points within its limits
 pub record Soil (m : ℕ) (void stress : List ℕ) (n : ℕ) (conductivityVoid conductivity : List ℕ) : Type 0 where
-  pub compressibility-few : 2 ≤ m
-  pub compressibility-many : m ≤ 64
-  pub conductivity-few : 2 ≤ n
-  pub conductivity-many : n ≤ 64
+  pub compressibility-few : curveLimits .least ≤ m
+  pub compressibility-many : m ≤ curveLimits .most
+  pub conductivity-few : curveLimits .least ≤ n
+  pub conductivity-many : n ≤ curveLimits .most
   pub compressibility-sound : compressibilitySound (points m void stress) ≡ true
   pub conductivity-sound : conductivitySound (points n conductivityVoid conductivity) (points m void stress) ≡ true
 

@@ -5,7 +5,7 @@ ghost use Prim.Native.Nat.{_+_, _≤_, _<_};
 ghost use Rattle.element.specs.Elements.{Readable, flowAbove};
 ghost use Rattle.laws.specs.Outflow.{HeldWithin};
 ghost use Rattle.numbers.specs.Arrays.{filled};
-ghost use Rattle.rules.specs.Quantities.{stepLimits};
+ghost use Rattle.rules.specs.Quantities.{stepLimits, elementLimits};
 use rules::quantities::Face;
 
 // The flows of t seconds up through the upper face of each element, in the first n places.
@@ -17,7 +17,7 @@ pub fn flows_above<'a>(
     resistance: &'a [u64; 128],
     above: &mut [i64; 128],
 )
-    requires { ⌜ (0 < n) × (n ≤ 128) ⌝ }
+    requires { ⌜ (0 < n) × (n ≤ elementLimits .most) ⌝ }
     requires { ⌜ HeldWithin top ⌝ }
     requires { ⌜ t ≤ stepLimits .most ⌝ }
     requires { ⌜ Readable n (now excess) (now resistance) ⌝ }

@@ -6,7 +6,7 @@ ghost use Prim.Native.Nat.{_≤_, _<_};
 ghost use Rattle.element.specs.Elements.{elementOf, Readable, flowAbove};
 ghost use Rattle.laws.specs.Outflow.{HeldWithin};
 ghost use Rattle.numbers.specs.Arrays.{filled};
-ghost use Rattle.rules.specs.Quantities.{stepLimits};
+ghost use Rattle.rules.specs.Quantities.{stepLimits, elementLimits};
 ghost use Rattle.rules.specs.Step.{outward};
 use crate::flows;
 use rules::quantities::Face;
@@ -21,7 +21,7 @@ pub fn all_flows<'a>(
     resistance: &'a [u64; 128],
     above: &mut [i64; 128],
 ) -> i64
-    requires { ⌜ (0 < n) × (n ≤ 128) ⌝ }
+    requires { ⌜ (0 < n) × (n ≤ elementLimits .most) ⌝ }
     requires { ⌜ HeldWithin top × HeldWithin bottom ⌝ }
     requires { ⌜ t ≤ stepLimits .most ⌝ }
     requires { ⌜ Readable n (now excess) (now resistance) ⌝ }

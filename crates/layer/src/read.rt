@@ -7,7 +7,7 @@ ghost use Rattle.layer.specs.Soil.{Soil, OnSoil, excessAt, resistanceAt}
 ghost use Rattle.numbers.specs.Arrays.{filled};
 ghost use Rattle.rules.specs.Curve.{points};
 ghost use Rattle.rules.specs.Layer.{excessPressure, resistance};
-ghost use Rattle.rules.specs.Quantities.{pressure};
+ghost use Rattle.rules.specs.Quantities.{elementLimits, pressure};
 use curves::reading;
 use rules::quantities::Pressure;
 
@@ -70,7 +70,7 @@ pub fn read_elements<'a>(
     excess: &mut [i64; 128],
     resistance: &mut [u64; 128],
 )
-    requires { ⌜ count ≤ 128 ⌝ }
+    requires { ⌜ count ≤ elementLimits .most ⌝ }
     requires { ⌜ Soil m (now void) (now stress) n (now «conductivity_void») (now conductivity) ⌝ }
     requires { ⌜ ((j : ℕ) → j < count → OnSoil m (now void) (now stress) (load .0) (getD (now burden) j 0) (getD (now solids) j 0) (getD (now water) j 0)) ⌝ }
     requires { ⌜ (length (now excess) ≡ 128) × (length (now resistance) ≡ 128) × (length (now «stress_segment») ≡ 128) × (length (now «conductivity_segment») ≡ 128) ⌝ }

@@ -2,16 +2,17 @@
 ghost use lib.ListN.{length, getD};
 ghost use mathlib.Core.Path.{_≡_};
 ghost use Prim.Native.Nat.{ℕ, _+_, _≤_, _<_};
+ghost use Rattle.laws.specs.Most.{mostTotalWeight};
 ghost use Rattle.layer.specs.Weights.{weightFrom, burdenAt};
 ghost use Rattle.numbers.specs.Arrays.{filled};
-ghost use Rattle.rules.specs.Quantities.{solidsLimits, gravityLimits};
+ghost use Rattle.rules.specs.Quantities.{solidsLimits, gravityLimits, elementLimits};
 
 // The weight of all elements.
 pub fn total_weight(n: usize, gravity: u64, solids: &[u64; 128]) -> u64
-    requires { ⌜ n ≤ 128 ⌝ }
+    requires { ⌜ n ≤ elementLimits .most ⌝ }
     requires { ⌜ (gravityLimits .least ≤ gravity) × (gravity ≤ gravityLimits .most) ⌝ }
     requires { ⌜ ((j : ℕ) → j < n → getD (now solids) j 0 ≤ solidsLimits .most) ⌝ }
-    ensures { λ r. ⌜ (r ≡ weightFrom gravity n (now (solids .entry)) 0) × (r ≤ 502_272_000) ⌝ }
+    ensures { λ r. ⌜ (r ≡ weightFrom gravity n (now (solids .entry)) 0) × (r ≤ mostTotalWeight) ⌝ }
 {
     let mut total: u64 = 0;
     let mut j: usize = 0;
@@ -24,7 +25,7 @@ pub fn total_weight(n: usize, gravity: u64, solids: &[u64; 128]) -> u64
 
 // B of every element, in the first n places.
 pub fn burdens<'a>(n: usize, gravity: u64, solids: &'a [u64; 128], burden: &mut [u64; 128])
-    requires { ⌜ n ≤ 128 ⌝ }
+    requires { ⌜ n ≤ elementLimits .most ⌝ }
     requires { ⌜ (gravityLimits .least ≤ gravity) × (gravity ≤ gravityLimits .most) ⌝ }
     requires { ⌜ ((j : ℕ) → j < n → getD (now solids) j 0 ≤ solidsLimits .most) ⌝ }
     requires { ⌜ length (now burden) ≡ 128 ⌝ }

@@ -7,7 +7,7 @@ use lib.ListN.{length, getD}
 use mathlib.Core.Bool.{Bool, true, false, not}
 use mathlib.Core.List.{List, [], map}
 use mathlib.Core.Path.{_≡_, refl, sym, ap, subst, _∙_}
-use Rattle.element.specs.Elements.{elementsIn, Readable, flowAbove}
+use Rattle.element.specs.Elements.{mostSensitivity, elementsIn, Readable, flowAbove}
 use Rattle.points.proofs.Covers.{ends}
 use Rattle.laws.specs.Bounds.{lowest-most, highest-most}
 use Rattle.laws.specs.Excess as Excess
@@ -32,6 +32,7 @@ use Rattle.rules.specs.Curve.{Point, points}
 use Rattle.rules.specs.Layer as layer
 use Rattle.rules.specs.Layer.{Site, State, elements}
 use Rattle.motion.specs.declared.Turned.the-variants.{Stopped, Stepped}
+use Rattle.rules.specs.Quantities.{stressLimits, waterLimits, voidUnit}
 use Rattle.rules.specs.Run.{Turn, stops, goes, turn}
 use Rattle.rules.specs.declared.answers.Stop.the-variants.{NoStep, OffCurve}
 use Rattle.rules.specs.Step.{Contact, flowsAbove, upwardFlows, moved, tooLongAt, tooLong, stressSlope, leavesCurve, stepped}
@@ -142,7 +143,7 @@ module _ (n : ℕ) (some-element : 0 < n) (m : ℕ) (void stress : List ℕ) (k 
     on-curve = rw e (kept count some top bottom t p r [] water first solids j (on j h .on-curve));
   }
 
-  pub waters-most : (j : ℕ) → j < n → getD water j 0 ≤ 1_000_000_000
+  pub waters-most : (j : ℕ) → j < n → getD water j 0 ≤ waterLimits .most
   waters-most j h = water-most m void stress k conductivityVoid conductivity soil load (getD burden j 0) (getD solids j 0) (getD water j 0) (on j h)
 
   module _ (sensitivity low high : List ℕ) (slope : ℕ) (worked : Worked n first solids sensitivity low high slope) where
@@ -152,11 +153,11 @@ module _ (n : ℕ) (some-element : 0 < n) (m : ℕ) (void stress : List ℕ) (k 
       resistance-most = readable .resistance-most;
       sensitivity-positive = λ j h. rw (worked .sensitivities j h) (sensitivity-pos (getD solids j 0) (on j h .solids-positive));
       sensitivity-most = λ j h. rw (worked .sensitivities j h)
-          (ceil-le (on j h .solids-positive) 100_000_000 100_000_000 .1 (let p = on j h .solids-positive in omega arith));
+          (ceil-le (on j h .solids-positive) voidUnit mostSensitivity .1 (let p = on j h .solids-positive in omega arith));
     }
 
     -- the bounds of water keep the limits
-    pub bounds-most : (j : ℕ) → j < n → (getD low j 0 ≤ 1_000_000_000) × (getD high j 0 ≤ 1_000_000_000)
+    pub bounds-most : (j : ℕ) → j < n → (getD low j 0 ≤ waterLimits .most) × (getD high j 0 ≤ waterLimits .most)
     bounds-most j h =
         let (greatest-is, least-is) = ends m void stress (let p = soil .compressibility-few in omega arith) in
         let c = compressible m void stress (soil .compressibility-sound) in
@@ -165,7 +166,7 @@ module _ (n : ℕ) (some-element : 0 < n) (m : ℕ) (void stress : List ℕ) (k 
           highest-most (getD solids j 0) (getD void 0 0) (on j h .solids-positive) (on j h .solids-most) (c .void-high 0 (let p = soil .compressibility-few in omega arith)),
         )
 
-    pub slope-range : (0 < slope) × (slope ≤ 2_000_000_000)
+    pub slope-range : (0 < slope) × (slope ≤ stressLimits .most)
     slope-range =
         rw (worked .slope-is)
         (steep-positive first (worked .bounded .falls) (worked .bounded .two), steep-most first (passed (soil .compressibility-sound)))

@@ -18,7 +18,7 @@ ghost use Rattle.rules.specs.Curve.{Point, points, compressibilitySound, steepn
 ghost use Rattle.rules.specs.Layer as layer;
 ghost use Rattle.rules.specs.Layer.{Site, State};
 ghost use Rattle.rules.specs.Run as run;
-ghost use Rattle.rules.specs.Quantities.{stepLimits, waterLimits, solidsLimits};
+ghost use Rattle.rules.specs.Quantities.{stepLimits, waterLimits, solidsLimits, elementLimits, curveLimits};
 use curves::steep;
 use layer::moving;
 use layer::read;
@@ -45,7 +45,7 @@ pub fn advance<'a>(
     above: &mut [i64; 128],
     water: &mut [u64; 128],
 ) -> Moved
-    requires { ⌜ (0 < n) × (n ≤ 128) ⌝ }
+    requires { ⌜ (0 < n) × (n ≤ elementLimits .most) ⌝ }
     requires { ⌜ HeldWithin top × HeldWithin bottom ⌝ }
     requires { ⌜ t ≤ stepLimits .most ⌝ }
     requires { ⌜ Readable n (now excess) (now resistance) ⌝ }
@@ -76,9 +76,9 @@ pub fn prepare<'a>(
     low: &mut [u64; 128],
     high: &mut [u64; 128],
 ) -> u64
-    requires { ⌜ n ≤ 128 ⌝ }
+    requires { ⌜ n ≤ elementLimits .most ⌝ }
     requires { ⌜ ((j : ℕ) → j < n → (0 < getD (now solids) j 0) × (getD (now solids) j 0 ≤ solidsLimits .most)) ⌝ }
-    requires { ⌜ (2 ≤ m) × (m ≤ 64) × (compressibilitySound (points m (now void) (now stress)) ≡ true) ⌝ }
+    requires { ⌜ (curveLimits .least ≤ m) × (m ≤ curveLimits .most) × (compressibilitySound (points m (now void) (now stress)) ≡ true) ⌝ }
     requires { ⌜ (length (now sensitivity) ≡ 128) × (length (now low) ≡ 128) × (length (now high) ≡ 128) ⌝ }
     ensures { λ r. ⌜ r ≡ steepness (points m (now (void .entry)) (now (stress .entry))) ⌝ }
     ensures { λ _. ⌜ now (sensitivity .exit) ≡ filled (now (sensitivity .entry)) n (λ j. layer.sensitivity (getD (now (solids .entry)) j 0)) ⌝ }
@@ -123,7 +123,7 @@ pub fn turn<'a>(
     above: &mut [i64; 128],
     water: &mut [u64; 128],
 ) -> Turned
-    requires { ⌜ (0 < n) × (n ≤ 128) ⌝ }
+    requires { ⌜ (0 < n) × (n ≤ elementLimits .most) ⌝ }
     requires { ⌜ HeldWithin top × HeldWithin bottom × (most ≤ stepLimits .most) ⌝ }
     requires { ⌜ Soil m (now void) (now stress) k (now «conductivity_void») (now conductivity) ⌝ }
     requires { ⌜ ((j : ℕ) → j < n → OnSoil m (now void) (now stress) (load .0) (getD (now burden) j 0) (getD (now solids) j 0) (getD (now water) j 0)) ⌝ }

@@ -18,6 +18,7 @@ use lib.ListN.{getD}
 use Rattle.numbers.specs.Signed.{readBack}
 use Rattle.reach.specs.Reach.{Limited, longestWithin}
 use Rattle.rules.specs.Layer.{Site, State}
+use Rattle.rules.specs.Quantities.{waterLimits, stepLimits}
 use Rattle.rules.specs.Run.{Turn, turn}
 use Rattle.rules.specs.declared.answers.Stop.the-variants.{NoStep, OffCurve}
 use Rattle.motion.specs.Turning.{longestUpTo, turnedBy, waterTurned, flowsTurned, Shows, some-bounds}
@@ -103,11 +104,11 @@ module _ (c : tie.After-longest) where
       ap (λ (r : List ℕ). longestWithin (s′ .args .top) (s′ .args .bottom) (s′ .args .slope) (s′ .args .n) r (s′ .args .sensitivity .now) (s′ .args .most)) (resistance-is f)
 
   -- it is within the limits of a step
-  short : c .longest .result ≤ 1_000_000
+  short : c .longest .result ≤ stepLimits .most
   unfolding longestWithin
   short = rw longest-now (le-trans (greatest-most _ (s′ .args .most)) (s′ .pre .1 .0 .2))
 
-  waters : (j : ℕ) → j < s′ .args .n → (getD (s′ .args .low .now) j 0 ≤ 1_000_000_000) × (getD (s′ .args .high .now) j 0 ≤ 1_000_000_000) × (getD (s′ .args .water .now) j 0 ≤ 1_000_000_000)
+  waters : (j : ℕ) → j < s′ .args .n → (getD (s′ .args .low .now) j 0 ≤ waterLimits .most) × (getD (s′ .args .high .now) j 0 ≤ waterLimits .most) × (getD (s′ .args .water .now) j 0 ≤ waterLimits .most)
   waters j h =
       let (low-most, high-most) = bounds-most (s′ .args .n) (s′ .pre .0 .0) (s′ .args .m) (s′ .args .void .now) (s′ .args .stress .now) (s′ .args .k) (s′ .args .conductivity-void .now)
       (s′ .args .conductivity .now) (s′ .pre .1 .1 .0) (s′ .args .load .0) (s′ .args .burden .now) (s′ .args .solids .now) (s′ .args .water .now)

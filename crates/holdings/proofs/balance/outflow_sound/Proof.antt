@@ -10,7 +10,7 @@ use mir.Val.{SFits, toZ}
 use Rattle.numbers.specs.Interval.{intervals, within-sub, within-le, within-pos, within-fits}
 use Rattle.numbers.specs.Searches.{both, joined, same-test}
 use Rattle.numbers.specs.Signed.{readBack, readUnsigned, one-sided, sub-parts, natAbs-parts}
-use Rattle.rules.specs.Quantities.{clockLimits, outflowRate}
+use Rattle.rules.specs.Quantities.{outflowRate, mostOutflow}
 use Rattle.rules.specs.Record.{outflowSound}
 use borrow.Author.Needs.{needs}
 use Rattle.holdings.proofs.balance.outflow_sound.Statement.{statement}
@@ -39,7 +39,7 @@ module _ (c : tie.Start) where
   most-is = readUnsigned most (omega arith)
 
   least-fits : SFits w64 (pos 0 -ℤ pos most)
-  least-fits = within-fits {n = outflowRate * clockLimits .most} tt (within-le (within-sub (within-pos 0) (within-pos most)) (omega arith))
+  least-fits = within-fits {n = mostOutflow} tt (within-le (within-sub (within-pos 0) (within-pos most)) (omega arith))
 
 -- the outflow is read from its bits
 outflow-fits : (c : tie.After-struct-told) → SFits w64 (c .before .before .before .args .outflow .0)

@@ -7,7 +7,7 @@ use lib.ListN.{getD, set}
 use mathlib.Core.Path.{_≡_, sym, _∙_}
 use mir.Syntax.{w64}
 use mir.Val.{SFits, ofZ, toZ}
-use Rattle.element.specs.Elements.{Readable, flowAbove}
+use Rattle.element.specs.Elements.{mostDifference, mostFaceResistance, Readable, flowAbove}
 use Rattle.element.proofs.FlowsAt.{outward-same, flow-inner, flow-top}
 use Rattle.numbers.specs.Arrays.{filled}
 use Rattle.numbers.specs.Filled.{filled-zero, filled-store}
@@ -41,14 +41,14 @@ module _ (l : tie.At-loop Inv-loop μ-loop) where
   p-fits : (i : ℕ) → i < s .args .n → SFits w64 (p i)
   p-fits i h = within-fits tt (readable .excess-within i h)
 
-  difference : j + 1 < s .args .n → Within (p j -ℤ p (j + 1)) 10_000_000_000
+  difference : j + 1 < s .args .n → Within (p j -ℤ p (j + 1)) mostDifference
   difference h =
       within-le (within-sub (readable .excess-within j (omega arith)) (readable .excess-within (j + 1) h)) (lit≤ tt)
 
   difference-fits : j + 1 < s .args .n → SFits w64 (p j -ℤ p (j + 1))
   difference-fits h = within-fits tt (difference h)
 
-  sum-within : j + 1 < s .args .n → (0 < r j + r (j + 1)) × (r j + r (j + 1) ≤ 11_000_000_000_000)
+  sum-within : j + 1 < s .args .n → (0 < r j + r (j + 1)) × (r j + r (j + 1) ≤ mostFaceResistance)
   sum-within h =
       omega (
         arith,

@@ -4,7 +4,7 @@ use mathlib.Core.Path.{_≡_, ap, _∙_}
 use Rattle.numbers.specs.Rounding.{ceil}
 use Rattle.numbers.specs.Interval.{Within, intervals}
 use Rattle.numbers.specs.Signed.{one-sided}
-use Rattle.rules.specs.Quantities.{stressLimits, pressure}
+use Rattle.rules.specs.Quantities.{stressLimits, waterLimits, pressure}
 use Rattle.rules.specs.Curve.{points, curveAt, valueOf}
 use Rattle.rules.specs.Layer.{effectiveStress, hydraulicConductivity, excessPressure, resistance}
 use Rattle.curves.proofs.SmoothCurves.{conductivity-smooth}
@@ -21,7 +21,7 @@ module _ (c : tie.Start) where
   abbrev on : OnSoil (c .args .m) (c .args .void .now) (c .args .stress .now) (c .args .load .0) (c .args .burden) (c .args .solids) (c .args .water)
   on = c .pre .1
 
-  most : c .args .water ≤ 1_000_000_000
+  most : c .args .water ≤ waterLimits .most
   most = water-most _ _ _ _ _ _ soil _ _ _ _ on
 
   load-within : Within (c .args .load .0) (stressLimits .most)

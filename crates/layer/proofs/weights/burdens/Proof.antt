@@ -1,5 +1,6 @@
 use Prim.Native.Nat.{ℕ, _+_, _-_, _/_, _≤_, _<_}
 use mathlib.Core.Path.{_≡_, sym, ap}
+use Rattle.laws.specs.Most.{mostTotalWeight}
 use Rattle.layer.specs.Weights.{weightFrom, burdenAt}
 use Rattle.layer.proofs.WeightsAt.{weight-step, burden-is}
 use Rattle.numbers.specs.Arrays.{filled}
@@ -11,7 +12,7 @@ use Rattle.layer.proofs.weights.burdens.Tie as tie
 
 abbrev Inv-loop : tie.InvT-loop
 Inv-loop n gravity solids burden₀ over₀ j₀ burden over j =
-    (j ≤ n) × (over ≡ weightFrom gravity n solids j) × (over ≤ 502_272_000) × (burden ≡ filled burden₀ j (burdenAt gravity n solids))
+    (j ≤ n) × (over ≡ weightFrom gravity n solids j) × (over ≤ mostTotalWeight) × (burden ≡ filled burden₀ j (burdenAt gravity n solids))
 
 abbrev μ-loop : tie.MeasureT-loop
 μ-loop n gravity solids burden₀ over₀ j₀ burden over j = n - j

@@ -1,5 +1,6 @@
 use Prim.Native.Nat.{_+_, _-_, _*_, _≤_}
 use mathlib.Core.Path.{_≡_}
+use Rattle.laws.specs.Most.{mostWeight}
 use Rattle.layer.specs.Weights.{weightFrom}
 use Rattle.layer.proofs.WeightsAt.{weight-step, weight-end}
 use native.Mathlib.Omega.{arith}
@@ -8,7 +9,7 @@ use Rattle.layer.proofs.weights.total_weight.Tie as tie
 
 abbrev Inv-loop : tie.InvT-loop
 Inv-loop n gravity solids total₀ j₀ total j =
-    (j ≤ n) × (total ≤ 3_924_000 * j) × (total + weightFrom gravity n solids j ≡ weightFrom gravity n solids 0)
+    (j ≤ n) × (total ≤ mostWeight * j) × (total + weightFrom gravity n solids j ≡ weightFrom gravity n solids 0)
 
 abbrev μ-loop : tie.MeasureT-loop
 μ-loop n gravity solids total₀ j₀ total j = n - j
