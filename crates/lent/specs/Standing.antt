@@ -14,6 +14,7 @@ use Rattle.laws.specs.Excess.{burdens-most}
 use Rattle.laws.specs.Bounds.{lowestWater, highestWater}
 use Rattle.laws.specs.Index.{points-length}
 use Rattle.laws.specs.Lengths.{burdens-length}
+use Rattle.laws.specs.Most.{sharpBurden, mostBurden}
 use Rattle.laws.specs.Rising.{lastAbscissa}
 use Rattle.layer.proofs.StepAt.{map-tabulate, on-curve-in}
 use Rattle.layer.specs.Soil.{Soil, OnSoil}
@@ -30,7 +31,7 @@ use Rattle.rules.specs.Curve.{Point, points, isOn, steepness}
 use Rattle.rules.specs.Layer as layer
 use Rattle.laws.specs.Amid.{Between}
 use Rattle.rules.specs.Layer.{State, effectiveStress, burdens}
-use Rattle.rules.specs.Quantities.{stressLimits}
+use Rattle.rules.specs.Quantities.{stressLimits, solidsLimits, gravityLimits, elementLimits}
 use Rattle.rules.specs.Record.{recordSite, recordState, siteSound, stateSound, isLayer}
 use Rattle.rules.specs.Step.{onCurve, allOnCurve}
 use Rattle.rules.specs.declared.record.Record.{Record}
@@ -68,13 +69,13 @@ module _ (r : Record) (is : isLayer r ≡ true) where
   abbrev pub curve : List Point
   curve = points m (r .soil .«compressibility_void») (r .soil .«compressibility_stress»)
 
-  pub counted : (0 < n) × (n ≤ 128)
+  pub counted : (0 < n) × (n ≤ elementLimits .most)
   counted = (site-is .header .elements-kept .least, site-is .header .elements-kept .most)
 
-  pub weighted : (1_000 ≤ (r .layer .frame .gravity)) × ((r .layer .frame .gravity) ≤ 5_000)
+  pub weighted : (gravityLimits .least ≤ (r .layer .frame .gravity)) × ((r .layer .frame .gravity) ≤ gravityLimits .most)
   weighted = (site-is .header .gravity-kept .least, site-is .header .gravity-kept .most)
 
-  pub solid : (j : ℕ) → j < n → (0 < getD (r .layer .solids) j 0) × (getD (r .layer .solids) j 0 ≤ 100_000_000)
+  pub solid : (j : ℕ) → j < n → (0 < getD (r .layer .solids) j 0) × (getD (r .layer .solids) j 0 ≤ solidsLimits .most)
   solid j h = (omega (arith, site-is .sizes .solids-least j h), site-is .sizes .solids-most j h)
 
   pub soil : Soil m (r .soil .«compressibility_void») (r .soil .«compressibility_stress») k (r .soil .«conductivity_void») (r .soil .conductivity)
@@ -109,15 +110,15 @@ module _ (r : Record) (is : isLayer r ≡ true) where
   unfolding burdenAt
   burden-at j h = getD-filled (zeros 128) n (burdenAt (r .layer .frame .gravity) n (r .layer .solids)) j 0 h
 
-  pub burden-most : (j : ℕ) → j < n → getD burden j 0 ≤ 510_000_000
+  pub burden-most : (j : ℕ) → j < n → getD burden j 0 ≤ mostBurden
   unfolding firstPlaces
   burden-most j h =
       let Ss = firstPlaces n (r .layer .solids) in
       let Bs = burdens (r .layer .frame .gravity) Ss in
-      let most : Every (λ B. B ≤ 500_310_000) Bs =
-      burdens-most (r .layer .frame .gravity) (weighted .1) Ss (every-tabulate (λ S. S ≤ 100_000_000) n (λ i. getD (r .layer .solids) i 0) (λ i l. solid i l .1))
+      let most : Every (λ B. B ≤ sharpBurden) Bs =
+      burdens-most (r .layer .frame .gravity) (weighted .1) Ss (every-tabulate (λ S. S ≤ solidsLimits .most) n (λ i. getD (r .layer .solids) i 0) (λ i l. solid i l .1))
       (rw (first-length n (r .layer .solids)) (counted .1)) in
-      rw (burden-at j h) (le-trans (every.every-at (λ B. B ≤ 500_310_000) Bs j 0 most (rw (burdens-length (r .layer .frame .gravity) Ss, first-length n (r .layer .solids)) h)) (lit≤ tt))
+      rw (burden-at j h) (le-trans (every.every-at (λ B. B ≤ sharpBurden) Bs j 0 most (rw (burdens-length (r .layer .frame .gravity) Ss, first-length n (r .layer .solids)) h)) (lit≤ tt))
 
   -- an element under any load, with any water on the curve
   pub on-soil-with : (load : ℤ) (water : List ℕ) → Between (pos 0) (pos (stressLimits .most)) load →

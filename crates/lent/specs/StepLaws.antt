@@ -28,7 +28,7 @@ use Rattle.rules.specs.Layer.{Site, State, elements, effectiveStress}
 use Rattle.rules.specs.Calls.{called}
 use Rattle.rules.specs.declared.answers.Answered.{Answered}
 use Rattle.rules.specs.Outcome.{Outcome, refused, outcome}
-use Rattle.rules.specs.Quantities.{within, stepLimits, clockLimits, stressLimits}
+use Rattle.rules.specs.Quantities.{within, stepLimits, clockLimits, stressLimits, solidsLimits}
 use Rattle.rules.specs.Record.{recordSite, recordState, isLayer}
 use Rattle.rules.specs.Refusals.{_if_, firstCause}
 use Rattle.rules.specs.Run.{stepTaken}
@@ -136,6 +136,6 @@ outer-flows r is t h short =
     (every-tabulate (λ S. 0 < S) n (λ i. getD (r .layer .solids) i 0) (λ i l. solid r is i l .0))
     (site-is r is .top-held) (site-is r is .bottom-held)
     (excesses-within (recordSite r) (passed (site-is r is .compressibility)) (recordState r) (state-is r is .load-between) (weighted r is .1)
-    (every-tabulate (λ S. S ≤ 100_000_000) n (λ i. getD (r .layer .solids) i 0) (λ i l. solid r is i l .1))
+    (every-tabulate (λ S. S ≤ solidsLimits .most) n (λ i. getD (r .layer .solids) i 0) (λ i l. solid r is i l .1))
     (rw (first-length n (r .layer .solids)) (counted r is .1)))
     (subst (λ (b : Bool). T (not b)) (sym short) tt)
