@@ -22,7 +22,7 @@ use Rattle.numbers.specs.Searches.{passed, is-true, both, joined}
 use Rattle.rules.specs.Curve.{Point, compressibilitySound, conductivitySound}
 use Rattle.rules.specs.Layer.{Site, State, effectiveStress, topPressure, bottomPressure}
 use Rattle.rules.specs.Load.{tableSound}
-use Rattle.rules.specs.Quantities.{within, withinℤ, levelLimits, solidsLimits, waterLimits, stressLimits, clockLimits, startingWaterLimits}
+use Rattle.rules.specs.Quantities.{within, withinℤ, levelLimits, solidsLimits, waterLimits, stressLimits, clockLimits, startingWaterLimits, outflowRate}
 use Rattle.rules.specs.Record.{headerSound, faceNumber, closedAtZero, sizesSound, faceHolds, outflowSound, isLayer}
 use Rattle.rules.specs.Record.{recordSite, recordState, withState, withEvents}
 use Rattle.rules.specs.Run.{Event, afterEvents}
@@ -87,7 +87,7 @@ sound-site r f =
           (header .compressibility-kept .least);
       table = passed (f .table);
       solid = every-map (λ S. T (within solidsLimits S)) (λ S. 0 < S) (λ S t. omega (arith, within-parts solidsLimits S t .0)) (site .solids) each;
-      small = every-map (λ S. T (within solidsLimits S)) (λ S. S ≤ 100_000_000) (λ S t. within-parts solidsLimits S t .1) (site .solids) each;
+      small = every-map (λ S. T (within solidsLimits S)) (λ S. S ≤ solidsLimits .most) (λ S t. within-parts solidsLimits S t .1) (site .solids) each;
       few = rw (first-length (r .layer .frame .elements) (r .layer .solids)) (header .elements-kept .most);
       light = header .gravity-kept .most;
       top-holds = holds-of (r .layer .frame .top) topPressure (f .top);
@@ -101,7 +101,7 @@ sound-site r f =
 
 -- water on a sound curve is within its limits
 pub water-limited : (curve : List Point) (Ss Ws : List ℕ) → T (compressibilitySound curve) → Every (λ S. 0 < S) Ss →
-    Every (λ S. S ≤ 100_000_000) Ss → length Ws ≡ length Ss → T (allOnCurve curve Ss (map pos Ws)) → Every (λ W. W ≤ waterLimits .most) Ws
+    Every (λ S. S ≤ solidsLimits .most) Ss → length Ws ≡ length Ss → T (allOnCurve curve Ss (map pos Ws)) → Every (λ W. W ≤ waterLimits .most) Ws
 unfolding Every allOnCurve onCurve effectiveStress
 water-limited curve Ss [] sound solid small n t = tt
 water-limited curve [] (W ∷ Ws) sound solid small n t = absurd (omega arith)
@@ -111,9 +111,9 @@ water-limited curve (S ∷ Ss) (W ∷ Ws) sound solid small n t =
       water-limited curve Ss Ws sound (solid .1) (small .1) (omega arith) more,
     )
 
-outflow-kept : (outflow : ℤ) (clock : ℕ) → Within outflow (2_300_000_000 * clock) → outflowSound outflow clock ≡ true
+outflow-kept : (outflow : ℤ) (clock : ℕ) → Within outflow (outflowRate * clock) → outflowSound outflow clock ≡ true
 unfolding outflowSound
-outflow-kept outflow clock w = is-true _ (le→leb (natAbs outflow) (2_300_000_000 * clock) (w .bound))
+outflow-kept outflow clock w = is-true _ (le→leb (natAbs outflow) (outflowRate * clock) (w .bound))
 
 module _ (r : Record) (f : Fixed r) (k : Kept (recordSite r) (r .layer .frame .«starting_water») (recordState r)) where
   water-sized : sizesSound (recordSite r) ((recordState r) .water) ≡ true

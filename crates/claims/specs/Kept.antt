@@ -21,7 +21,7 @@ use Rattle.numbers.specs.Sums.{sum}
 use Rattle.rules.specs.Curve.{Point, falling, compressibilitySound}
 use Rattle.rules.specs.Layer.{Site, State, elements, bottomPressure}
 use Rattle.rules.specs.Load.{tableSound, withLoad}
-use Rattle.rules.specs.Quantities.{clockLimits}
+use Rattle.rules.specs.Quantities.{clockLimits, solidsLimits, gravityLimits, elementLimits, outflowRate, mostHeadPressure}
 use Rattle.rules.specs.Run.{Event, loadSet, stepTaken, afterEvent, afterEvents}
 use Rattle.numbers.specs.Lists.{paired}
 use Rattle.rules.specs.Step.{stressSlope, upwardFlows, moved, newHeight, stepped, onCurve, allOnCurve}
@@ -47,12 +47,12 @@ pub record SoundSite (site : Site) : Type 0 where
   pub two : 2 ≤ length site.compressibility
   pub table : T (tableSound site.loadTable)
   pub solid : Every (λ S. 0 < S) site.solids
-  pub small : Every (λ S. S ≤ 100_000_000) site.solids
-  pub few : length site.solids ≤ 128
-  pub light : site.gravity ≤ 5_000
+  pub small : Every (λ S. S ≤ solidsLimits .most) site.solids
+  pub few : length site.solids ≤ elementLimits .most
+  pub light : site.gravity ≤ gravityLimits .most
   pub top-holds : Holds (λ p. p ≡ pos 0) site.top
   pub bottom-holds : Holds (λ p. p ≡ heldBelow site) site.bottom
-  pub held-within : Within (heldBelow site) 1_962_000_000
+  pub held-within : Within (heldBelow site) mostHeadPressure
 
 -- what a state keeps, on a site and since a starting water
 pub record Kept (site : Site) (start : ℕ) (s : State) : Type 0 where
@@ -60,8 +60,8 @@ pub record Kept (site : Site) (start : ℕ) (s : State) : Type 0 where
   pub on-curve : T (allOnCurve site.compressibility site.solids (map pos s.water))
   pub load : LoadKept s.load
   pub clock : s.clock ≤ clockLimits .most
-  pub top-bound : Within s.topOutflow (2_300_000_000 * s.clock)
-  pub bottom-bound : Within s.bottomOutflow (2_300_000_000 * s.clock)
+  pub top-bound : Within s.topOutflow (outflowRate * s.clock)
+  pub bottom-bound : Within s.bottomOutflow (outflowRate * s.clock)
   pub balanced : pos start ≡ pos (sum s.water) +ℤ s.topOutflow +ℤ s.bottomOutflow
 
 -- heights on the curve are the new heights, as none is negative
@@ -94,8 +94,8 @@ module _ (site : Site) (sound : SoundSite site) (start : ℕ) where
   step-keeps t s a k =
       let (enters, leaves) =
       outflow-within site s t (a .least) (steep-positive site.compressibility (sound .falls) (sound .two)) (sound .solid)
-      (holds-map (λ p e. subst (λ (z : ℤ). Within z 1_962_000_000) (sym e) (within-le (within-pos 0) (lit≤ tt))) site.top (sound .top-holds))
-      (holds-map (λ p e. subst (λ (z : ℤ). Within z 1_962_000_000) (sym e) (sound .held-within)) site.bottom (sound .bottom-holds))
+      (holds-map (λ p e. subst (λ (z : ℤ). Within z mostHeadPressure) (sym e) (within-le (within-pos 0) (lit≤ tt))) site.top (sound .top-holds))
+      (holds-map (λ p e. subst (λ (z : ℤ). Within z mostHeadPressure) (sym e) (sound .held-within)) site.bottom (sound .bottom-holds))
       (excesses-within site (sound .compressibility) s (k .load) (sound .light) (sound .small) (sound .few)) (a .short)
       in
       record {

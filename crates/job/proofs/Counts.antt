@@ -4,14 +4,15 @@ use mathlib.Core.Bool.{true}
 use mathlib.Core.Path.{_≡_}
 use Rattle.laws.specs.SoundHeader.{kept-header}
 use Rattle.rules.specs.Job.{headerKept, jobLength}
+use Rattle.rules.specs.Quantities.{elementLimits, curveLimits, tableLimits}
 use Rattle.rules.specs.declared.job.Header.{Header}
 
 -- they keep their arrays' sizes, and the length is theirs
 pub record Counted (elements compressibilityPoints conductivityPoints tablePoints size : ℕ) : Type 0 where
-  pub elements-most : elements ≤ 128
-  pub compressibility-most : compressibilityPoints ≤ 64
-  pub conductivity-most : conductivityPoints ≤ 64
-  pub table-most : tablePoints ≤ 64
+  pub elements-most : elements ≤ elementLimits .most
+  pub compressibility-most : compressibilityPoints ≤ curveLimits .most
+  pub conductivity-most : conductivityPoints ≤ curveLimits .most
+  pub table-most : tablePoints ≤ tableLimits .most
   pub whole : size ≡ 48 + 16 * (elements + compressibilityPoints + conductivityPoints + tablePoints)
 
 pub counted : (h : Header) (size : ℕ) → headerKept h ≡ true → size ≡ jobLength h →

@@ -12,6 +12,7 @@ use Rattle.element.specs.Elements.{mostBurden}
 use Rattle.laws.specs.Every.{Every, every-at, every-tabulate}
 use Rattle.laws.specs.Excess.{burdens-most}
 use Rattle.laws.specs.Lengths.{burdens-length}
+use Rattle.laws.specs.Most.{sharpBurden}
 use Rattle.laws.specs.Sizes.{SoundSizes, sound-sizes}
 use Rattle.laws.specs.SoundHeader.{SoundHeader, kept-header}
 use Rattle.layer.specs.Weights.{burdenAt}
@@ -31,7 +32,7 @@ use Rattle.rules.specs.Job.{Description, describedCauses, fieldsSound, frameOf,
 use Rattle.rules.specs.Layer.{Site, burdens}
 use Rattle.rules.specs.Load.{firstPoint}
 use Rattle.rules.specs.Opening.{descriptionWater, layerCauses}
-use Rattle.rules.specs.Quantities.{within, clockLimits, budgetLimits, levelLimits, solidsLimits, stressLimits, waterLimits}
+use Rattle.rules.specs.Quantities.{within, clockLimits, budgetLimits, levelLimits, solidsLimits, stressLimits, waterLimits, elementLimits}
 use Rattle.rules.specs.Record.{sizesSound}
 use Rattle.rules.specs.Refusals.{firstCause}
 use Rattle.rules.specs.Start.{openingLoad, openingState, startWater}
@@ -101,10 +102,10 @@ module _ (d : Description) (header : headerKept d.header ≡ true) (sound : firs
     pub burden-most : (j : ℕ) → j < n → getD burden j 0 ≤ mostBurden
     unfolding firstPlaces
     burden-most j h =
-        let solid : Every (λ S. S ≤ 100_000_000) (firstPlaces n d.solids) =
-        every-tabulate (λ S. S ≤ 100_000_000) n (λ i. getD d.solids i 0) (λ i k. sized .0 .solids-most i k) in
-        let few : length (firstPlaces n d.solids) ≤ 128 = omega (arith, first-length n d.solids, kept .elements-kept .most) in
-        let most = every-at (λ B. B ≤ 500_310_000) (burdens d.header.gravity (firstPlaces n d.solids)) j 0
+        let solid : Every (λ S. S ≤ solidsLimits .most) (firstPlaces n d.solids) =
+        every-tabulate (λ S. S ≤ solidsLimits .most) n (λ i. getD d.solids i 0) (λ i k. sized .0 .solids-most i k) in
+        let few : length (firstPlaces n d.solids) ≤ elementLimits .most = omega (arith, first-length n d.solids, kept .elements-kept .most) in
+        let most = every-at (λ B. B ≤ sharpBurden) (burdens d.header.gravity (firstPlaces n d.solids)) j 0
         (burdens-most d.header.gravity (kept .gravity-kept .most) _ solid few)
         (omega (arith, burdens-length d.header.gravity (firstPlaces n d.solids), first-length n d.solids)) in
         omega (arith, burden-at j h)

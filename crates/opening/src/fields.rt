@@ -4,6 +4,7 @@ ghost use mathlib.Core.Path.{_≡_};
 ghost use Prim.Native.Nat.{ℕ, _≤_};
 ghost use Rattle.opening.specs.Causes.{fieldsAnswer};
 ghost use Rattle.opening.specs.Lent.{descriptionOf};
+ghost use Rattle.rules.specs.Quantities.{elementLimits};
 use holdings::sizes;
 use rules::job::Header;
 use rules::quantities::Budget;
@@ -21,7 +22,7 @@ pub enum Fields {
 
 // Tests levels, end, budget, solids and water. The arrays of the curves and of the table do not matter.
 pub fn check_fields<'a>(header: Header, solids: &'a [u64; 128], water: &'a [u64; 128]) -> Fields
-    requires { ⌜ header .elements ≤ 128 ⌝ }
+    requires { ⌜ header .elements ≤ elementLimits .most ⌝ }
     ensures { λ r. ⌜ ((void stress conductivityVoid conductivity tableTime tableLoad : List ℕ) → r ≡ fieldsAnswer (descriptionOf header void stress conductivityVoid conductivity (now (solids .entry)) (now (water .entry)) tableTime tableLoad)) ⌝ }
 {
     let n = header.elements;

@@ -10,7 +10,7 @@ ghost use Rattle.numbers.specs.Lists.{all};
 ghost use Rattle.opening.specs.Accepting.{Starting, waterStarted};
 ghost use Rattle.rules.specs.Curve.{points, compressibilitySound};
 ghost use Rattle.rules.specs.Layer.{Site};
-ghost use Rattle.rules.specs.Quantities.{stressLimits, solidsLimits, waterLimits};
+ghost use Rattle.rules.specs.Quantities.{stressLimits, solidsLimits, waterLimits, elementLimits, curveLimits};
 ghost use Rattle.rules.specs.Start.{startWater};
 ghost use Rattle.start.specs.Rest.{allOrNone};
 
@@ -38,10 +38,10 @@ pub fn start_water<'a>(
     stress: &'a [u64; 64],
     water: &mut [u64; 128],
 ) -> bool
-    requires { ⌜ (n ≤ 128) × (load ≤ stressLimits .most) ⌝ }
+    requires { ⌜ (n ≤ elementLimits .most) × (load ≤ stressLimits .most) ⌝ }
     requires { ⌜ ((j : ℕ) → j < n → getD (now burden) j 0 ≤ mostBurden) ⌝ }
     requires { ⌜ ((j : ℕ) → j < n → (0 < getD (now solids) j 0) × (getD (now solids) j 0 ≤ solidsLimits .most) × (getD (now water) j 0 ≤ waterLimits .most)) ⌝ }
-    requires { ⌜ (2 ≤ m) × (m ≤ 64) × (compressibilitySound (points m (now void) (now stress)) ≡ true) ⌝ }
+    requires { ⌜ (curveLimits .least ≤ m) × (m ≤ curveLimits .most) × (compressibilitySound (points m (now void) (now stress)) ≡ true) ⌝ }
     requires { ⌜ (length (now water) ≡ 128) × ((eqb start 0 || all (λ w. eqb w 0) (firstPlaces n (now water))) ≡ true) ⌝ }
     ensures { λ r. ⌜ ((site : Site) → Starting site n (now (solids .entry)) (now (burden .entry)) (points m (now (void .entry)) (now (stress .entry))) → startWater site start (firstPlaces n (now (water .entry))) load ≡ allOrNone r (firstPlaces n (now (water .exit)))) ⌝ }
     ensures { λ _. ⌜ ((site : Site) → Starting site n (now (solids .entry)) (now (burden .entry)) (points m (now (void .entry)) (now (stress .entry))) → now (water .exit) ≡ waterStarted (startWater site start (firstPlaces n (now (water .entry))) load) (now (water .entry))) ⌝ }
