@@ -6,7 +6,7 @@ ghost use Rattle.lent.specs.Burdens.{burdensIn};
 ghost use Rattle.layer.specs.Soil.{Soil, OnSoil, excessAt, resistanceAt};
 ghost use Rattle.numbers.specs.Arrays.{filled};
 ghost use Rattle.rules.specs.Curve.{points};
-ghost use Rattle.rules.specs.Quantities.{gravityLimits};
+ghost use Rattle.rules.specs.Quantities.{gravityLimits, elementLimits};
 use layer::read;
 use layer::weights;
 use rules::quantities::Pressure;
@@ -27,7 +27,7 @@ pub fn read_layer<'a>(
     excess: &mut [i64; 128],
     resistance: &mut [u64; 128],
 )
-    requires { ⌜ frame .elements ≤ 128 ⌝ }
+    requires { ⌜ frame .elements ≤ elementLimits .most ⌝ }
     requires { ⌜ (gravityLimits .least ≤ frame .gravity) × (frame .gravity ≤ gravityLimits .most) ⌝ }
     requires { ⌜ Soil (counts .compressibility) (now void) (now stress) (counts .conductivity) (now «conductivity_void») (now conductivity) ⌝ }
     requires { ⌜ ((j : ℕ) → j < frame .elements → OnSoil (counts .compressibility) (now void) (now stress) (load .0) (getD (burdensIn frame (now solids)) j 0) (getD (now solids) j 0) (getD (now water) j 0)) ⌝ }

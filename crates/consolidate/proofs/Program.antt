@@ -22,6 +22,7 @@ use Rattle.rules.specs.Job.{described, headerLength, marked, framingCauses, job
 use Rattle.rules.specs.Key.{key}
 use Rattle.rules.specs.Opening.{refusedOpening, opening}
 use Rattle.rules.specs.Program.{digits, refusedLine, inputMost, programOutput}
+use Rattle.rules.specs.Quantities.{elementLimits}
 use Rattle.rules.specs.Refusals.{refusalNumber}
 use Rattle.rules.specs.Result.{Returned, withheld, resultSize}
 use Rattle.rules.specs.declared.answers.Answer.the-variants.{Done}
@@ -50,7 +51,7 @@ module _ (job buffer : List ℕ) (e : (key job buffer) .number ≡ 0) where
       nltb→le (length job) headerLength (neither short (not (marked job)) (none-holds (jobCauses job) (opened job accepted .no-cause) .0) .0)
 
   -- which says at most 128 elements
-  pub elements-few : (described job) .header .elements ≤ 128
+  pub elements-few : (described job) .header .elements ≤ elementLimits .most
   elements-few = kept-header ((described job) .header) (described-sound job (opened job accepted .no-cause) .header) .elements-kept .most
 
   -- whose result is no longer than the longest

@@ -29,7 +29,7 @@ use Rattle.rules.specs.Key.{runToResult, key}
 use Rattle.rules.specs.Layer.{Site, State}
 use Rattle.rules.specs.Opening.{openedRecord, refusedOpening, descriptionWater, opening}
 use Rattle.rules.specs.Outcome.{refusalOf}
-use Rattle.rules.specs.Quantities.{within, clockLimits, budgetLimits}
+use Rattle.rules.specs.Quantities.{within, clockLimits, budgetLimits, elementLimits}
 use Rattle.rules.specs.Record.{recordSite, recordState, sizesSound, isLayer}
 use Rattle.rules.specs.Refusals.{Trial, firstCause, refusalNumber}
 use Rattle.rules.specs.Result.{Returned, withheld, resultBytes, resultSize}
@@ -116,7 +116,7 @@ module _ (job : List ℕ) (done : (opening job) .answer ≡ Done) where
       let d = described job in
       let o = opened job done in
       let n = d .header .elements in
-      let few : n ≤ 128 = subst (λ (k : ℕ). k ≤ 128) opened-elements (counted ((opening job) .after) opened-layer .1) in
+      let few : n ≤ elementLimits .most = subst (λ (k : ℕ). k ≤ elementLimits .most) opened-elements (counted ((opening job) .after) opened-layer .1) in
       let size : length (o .water) ≡ n = opened-record job done .kept .size ∙ first-length n (d .solids) in
       let whole : length (d .water) ≡ 128 = length-filled (zeros 128) n _ (omega (arith, length-zeros 128)) ∙ length-zeros 128 in
       ap (λ (r : Record). length (r .layer .water)) (o .left) ∙ length-overlaid (o .water) (d .water) (omega arith) ∙ whole

@@ -16,18 +16,14 @@ use Rattle.numbers.specs.Filled.{first-length}
 use Rattle.numbers.specs.Sums.{sum, sum-append}
 use Rattle.rules.specs.Curve.{Point, valueOf}
 use Rattle.rules.specs.Layer.{height, voidRatio, effectiveStress}
-use Rattle.rules.specs.Quantities.{elementLimits, solidsLimits, waterLimits}
+use Rattle.rules.specs.Quantities.{elementLimits, solidsLimits, waterLimits, mostHeadPressure}
 use Rattle.rules.specs.Result.{word, signedWord, elementWords, porePressure, elementBytes, elementsBytes}
 
 -- the height of all below an element: 128 elements of the greatest height
 abbrev pub mostHeight : ℕ
 mostHeight = elementLimits .most * (solidsLimits .most + waterLimits .most)
 
--- the pressure of a head between two levels, above and below zero
-abbrev pub mostHeadPressure : ℕ
-mostHeadPressure = 1_962_000_000
-
--- and pore pressure
+-- pore pressure, above and below zero
 abbrev pub mostPore : ℕ
 mostPore = mostExcess + mostHeadPressure
 

@@ -14,8 +14,8 @@ use Rattle.layer.specs.Soil.{OnSoil}
 use Rattle.numbers.specs.Interval.{Within, intervals, within-add, within-cut, within-mul, within-pos}
 use Rattle.numbers.specs.Searches.{passed}
 use Rattle.numbers.specs.Signed.{one-sided, sub-parts}
-use Rattle.result.specs.Elements.{mostHeight, mostHeadPressure, mostPore}
-use Rattle.rules.specs.Quantities.{head, levelLimits, pressureOf, solidsLimits, stressLimits, waterLimits, withinℤ}
+use Rattle.result.specs.Elements.{mostHeight, mostPore}
+use Rattle.rules.specs.Quantities.{head, levelLimits, pressureOf, solidsLimits, stressLimits, waterLimits, withinℤ, mostHeadPressure}
 use Rattle.rules.specs.Curve.{Point, points, valueOf, compressibilitySound}
 use Rattle.rules.specs.Layer.{voidRatio, effectiveStress, excessPressure}
 use Rattle.rules.specs.Result.{nodeHeight, poreOver}

@@ -10,7 +10,7 @@ ghost use Rattle.numbers.specs.Arrays.{firstPlaces};
 ghost use Rattle.numbers.specs.Interval.{Within};
 ghost use Rattle.result.specs.Elements.{mostHeight, mostPore};
 ghost use Rattle.rules.specs.Curve.{points, compressibilitySound};
-ghost use Rattle.rules.specs.Quantities.{levelLimits, solidsLimits, stressLimits, waterLimits, pressure, withinℤ};
+ghost use Rattle.rules.specs.Quantities.{levelLimits, solidsLimits, stressLimits, waterLimits, pressure, withinℤ, elementLimits, curveLimits};
 ghost use Rattle.rules.specs.Result.{nodeHeight, poreOver, elementWords, elementBytes, elementsBytes};
 use curves::reading;
 use rules::quantities::Head;
@@ -71,7 +71,7 @@ pub fn write_element<'a>(
 )
     requires { ⌜ at + 40 ≤ length (now out) ⌝ }
     requires { ⌜ (below ≤ mostHeight) × (withinℤ levelLimits («top_level» .0) ≡ true) ⌝ }
-    requires { ⌜ (2 ≤ m) × (m ≤ 64) ⌝ }
+    requires { ⌜ (curveLimits .least ≤ m) × (m ≤ curveLimits .most) ⌝ }
     requires { ⌜ compressibilitySound (points m (now void) (now stress)) ≡ true ⌝ }
     requires { ⌜ OnSoil m (now void) (now stress) (load .0) burden solids water ⌝ }
     ensures { λ _. ⌜ now (out .exit) ≡ sets (now (out .entry)) at (elementBytes (points m (now (void .entry)) (now (stress .entry))) («top_level» .0) (load .0) below burden solids water) ⌝ }
@@ -104,9 +104,9 @@ pub fn write_elements<'a>(
     stress: &'a [u64; 64],
     out: &mut [u8],
 )
-    requires { ⌜ (n ≤ 128) × (56 + 40 * n ≤ length (now out)) ⌝ }
+    requires { ⌜ (n ≤ elementLimits .most) × (56 + 40 * n ≤ length (now out)) ⌝ }
     requires { ⌜ withinℤ levelLimits («top_level» .0) ≡ true ⌝ }
-    requires { ⌜ (2 ≤ m) × (m ≤ 64) ⌝ }
+    requires { ⌜ (curveLimits .least ≤ m) × (m ≤ curveLimits .most) ⌝ }
     requires { ⌜ compressibilitySound (points m (now void) (now stress)) ≡ true ⌝ }
     requires { ⌜ ((j : ℕ) → j < n → OnSoil m (now void) (now stress) (load .0) (getD (now burden) j 0) (getD (now solids) j 0) (getD (now water) j 0)) ⌝ }
     ensures { λ _. ⌜ now (out .exit) ≡ sets (now (out .entry)) 56 (elementsBytes (points m (now (void .entry)) (now (stress .entry))) («top_level» .0) (load .0) 0 (firstPlaces n (now (burden .entry))) (firstPlaces n (now (solids .entry))) (firstPlaces n (now (water .entry)))) ⌝ }

@@ -28,7 +28,7 @@ use Rattle.rules.specs.Calls.{endedRun}
 use Rattle.rules.specs.Curve.{Point}
 use Rattle.rules.specs.Layer.{Site, State, elements}
 use Rattle.rules.specs.Load.{loadAt, nextTime, withLoad}
-use Rattle.rules.specs.Quantities.{pressure}
+use Rattle.rules.specs.Quantities.{elementLimits, pressure}
 use Rattle.rules.specs.Record.{recordSite, stateOf, withParts}
 use Rattle.rules.specs.Run.{loadSet, stepTaken, afterEvent, longestReach, longestStep, Turn, stops, goes, turn}
 use Rattle.rules.specs.Step.{upwardFlows, tooLong, stepped}
@@ -50,7 +50,7 @@ next-reaches (a ∷ rest) now otherwise h =
     (λ t. let l = ltb→lt now a.abscissa t in omega arith) (λ _. ih)
 
 -- the flows of a pass fill the same array
-pub flows-long : (site : Site) (s : State) (n longest : ℕ) (above : List ℤ) → n ≤ 128 → length above ≡ 128 → length (flowsTurned site s n longest above) ≡ 128
+pub flows-long : (site : Site) (s : State) (n longest : ℕ) (above : List ℤ) → n ≤ elementLimits .most → length above ≡ 128 → length (flowsTurned site s n longest above) ≡ 128
 unfolding flowsTurned
 flows-long site s n zero above few many = many
 flows-long site s n (suc t) above few many = length-filled above n _ (omega arith) ∙ many

@@ -18,7 +18,7 @@ use Rattle.numbers.specs.Interval.{within-fits, within-le}
 use Rattle.numbers.specs.Searches.{passed, both, is-true}
 use Rattle.rules.proofs.Limits.{inside}
 use Rattle.rules.specs.Calls.{Ending, endedRun}
-use Rattle.rules.specs.Quantities.{clockLimits, startingWaterLimits}
+use Rattle.rules.specs.Quantities.{clockLimits, startingWaterLimits, mostOutflow}
 use Rattle.rules.specs.Record.{recordSite, stateOf, recordState, withParts, withState, withEvents, siteSound, stateSound, isLayer}
 use Rattle.rules.specs.Run.{Event, afterEvents, stepCount, running}
 use Rattle.rules.specs.declared.answers.Stop.{Stop}
@@ -85,8 +85,8 @@ pub outflows-fit : {r : Record} {end budget : ℕ} {water : List ℕ} {progress 
     SFits w64 (progress .«top_outflow» .0) × SFits w64 (progress .«bottom_outflow» .0)
 outflows-fit at =
     let m = at .kept .clock in (
-      within-fits {n = 6_900_000_000_000_000_000} tt (within-le (at .kept .top-bound) (omega arith)),
-      within-fits {n = 6_900_000_000_000_000_000} tt (within-le (at .kept .bottom-bound) (omega arith)),
+      within-fits {n = mostOutflow} tt (within-le (at .kept .top-bound) (omega arith)),
+      within-fits {n = mostOutflow} tt (within-le (at .kept .bottom-bound) (omega arith)),
     )
 
 module _ (r : Record) (is : isLayer r ≡ true) (whole : length (r .layer .water) ≡ 128) where

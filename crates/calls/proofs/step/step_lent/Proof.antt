@@ -30,7 +30,7 @@ use Rattle.rules.proofs.Limits.{within-parts}
 use Rattle.rules.specs.Calls.{called}
 use Rattle.rules.specs.Curve.{steepness}
 use Rattle.rules.specs.Layer.{State, elements}
-use Rattle.rules.specs.Quantities.{stepLimits, clockLimits, waterLimits, outflowRate}
+use Rattle.rules.specs.Quantities.{stepLimits, clockLimits, waterLimits, outflowRate, mostOutflow}
 use Rattle.rules.specs.Record.{soilOf, layerOf, recordOf, recordSite, recordState, progressOf, withParts, withState, withEvents, isLayer}
 use Rattle.rules.specs.Run.{stepTaken, afterEvent, afterEvents}
 use Rattle.rules.specs.Step.{upwardFlows, tooLong, stepped}
@@ -61,7 +61,7 @@ module _ (s : tie.Start) where
   abbrev t : ℕ
   t = s .args .t
 
-  t-within : (1 ≤ t) × (t ≤ stepLimits .most)
+  t-within : (stepLimits .least ≤ t) × (t ≤ stepLimits .most)
   t-within = within-parts stepLimits t (passed (s .pre .1 .0 .0))
 
   clock-sum : s .args .progress .clock .0 + t ≤ clockLimits .most
@@ -288,10 +288,10 @@ module _ (c : tie.After-known-told) where
   last-within = within-as (flowed .2 ∙ ap (lastOr (pos 0)) (flows-are (r s₄) (is s₄) (t s₄))) (outer-flows (r s₄) (is s₄) (t s₄) (t-within s₄ .0) (short (e₁ a)) .1)
 
   top-sum : SFits w64 (s₄ .args .progress .«top_outflow» .0 +ℤ last)
-  top-sum = within-fits {n = outflowRate * clockLimits .most} tt (within-le (within-add (state-is (r s₄) (is s₄) .top-bound) last-within) (omega (arith, clock-sum s₄)))
+  top-sum = within-fits {n = mostOutflow} tt (within-le (within-add (state-is (r s₄) (is s₄) .top-bound) last-within) (omega (arith, clock-sum s₄)))
 
   bottom-sum : SFits w64 (s₄ .args .progress .«bottom_outflow» .0 -ℤ first)
-  bottom-sum = within-fits {n = outflowRate * clockLimits .most} tt (within-le (within-sub (state-is (r s₄) (is s₄) .bottom-bound) first-within) (omega (arith, clock-sum s₄)))
+  bottom-sum = within-fits {n = mostOutflow} tt (within-le (within-sub (state-is (r s₄) (is s₄) .bottom-bound) first-within) (omega (arith, clock-sum s₄)))
 
   -- the state after the step
   abbrev next : State
