@@ -132,7 +132,7 @@ enum {
  * `result` is as it was. No other number is returned.
  *
  * No memory is allocated and no state is kept from one call to the next. The function is re-entrant: threads may
- * call it at the same time, each with a result of its own. It uses less than 40 KiB of stack. A call takes time at
+ * call it at the same time, each with a result of its own. It uses less than 16 KiB of stack. A call takes time at
  * most in proportion to the steps taken, of which there are at most 1,000,000, times N and the points of the curves
  * and the table.
  *

@@ -24,6 +24,7 @@ class Mutant:
     crate: str
     path: str
     function: str
+    promised: bool
     kind: str
     line: int
     change: str
@@ -73,6 +74,7 @@ def mutants_of_body(crate: str, source: Source, body: Body, declared: Declared) 
                 crate,
                 source.path,
                 body.name,
+                body.promised,
                 change.kind,
                 source.line(change.start),
                 shown,

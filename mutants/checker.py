@@ -1,4 +1,5 @@
-"""Runs the checker on a mutant of a crate, as `rt dev` does, and says what it answers."""
+"""Runs the checker on a crate in a folder, as `rt dev` does, or builds its program, as `rt check` does, and says what
+it answers."""
 
 from __future__ import annotations
 
@@ -9,9 +10,7 @@ import shutil
 import signal
 import subprocess
 from dataclasses import dataclass
-from typing import Dict, List, Tuple
-
-from catalogue import Mutant
+from typing import List
 
 # What a check may take of a processor's time. A check of an unchanged crate takes at most 30 seconds.
 SECONDS = 180
@@ -75,6 +74,7 @@ class Kit:
         self.root = root
         self.home = os.environ.get("RATTLE_HOME") or os.path.dirname(os.path.dirname(os.path.realpath(rt)))
         self.own = os.path.join(self.home, "on", platform.machine())
+        self.tools = os.path.join(self.own, "toolchain")
         self.rlibs = os.path.join(root, "target", "rlib")
 
     def prove_all(self) -> None:
@@ -90,10 +90,13 @@ class Kit:
                     return rest.split()
         raise CheckerError(f"crates.txt does not list {crate}")
 
-    def words(self, crate: str, folder: str, incremental: str) -> List[str]:
-        """The command that `rt dev` runs, on a crate in a folder."""
+    def is_program(self, crate: str) -> bool:
+        return os.path.isfile(os.path.join(self.root, "crates", crate, "src", "main.rt"))
+
+    def words(self, verb: str, crate: str, folder: str, incremental: str) -> List[str]:
+        """The command that `rt` runs, on a crate in a folder, over an incremental folder."""
         roots = [os.path.join(folder, "src", name) for name in ("main.rt", "lib.rt")]
-        found = [os.path.join(self.own, "bin", "rattle"), "check", "--crate-name", crate]
+        found = [os.path.join(self.own, "bin", "rattle"), verb, "--crate-name", crate]
         found += [next(root for root in roots if os.path.isfile(root))]
         found += ["--extern", f"std={self.own}/rlib/std.rlib"]
         for name in self.dependencies(crate):
@@ -104,85 +107,38 @@ class Kit:
         return found + ["--logic-built", f"{self.own}/logic-built", "--incremental", incremental]
 
     def check(self, crate: str, folder: str, incremental: str) -> Verdict:
-        limited = ["sh", "-c", 'ulimit -t "$0" && exec "$@"', str(SECONDS)]
-        try:
-            ended = subprocess.run(
-                limited + self.words(crate, folder, incremental),
-                stdin=subprocess.DEVNULL,
-                stdout=subprocess.PIPE,
-                stderr=subprocess.STDOUT,
-                timeout=20 * SECONDS,
-            )
-        except subprocess.TimeoutExpired:
-            return Verdict(NOT_TOLD, "no answer")
-        said = ended.stdout.decode("utf-8", "replace")
-        if ended.returncode in (-signal.SIGXCPU, -signal.SIGKILL):
-            return Verdict(NOT_TOLD, f"{said}no answer in {SECONDS} seconds of a processor's time")
-        return verdict(ended.returncode, said)
+        return asked(self.words("check", crate, folder, incremental))
 
-
-def stamps(folder: str) -> Dict[str, Tuple[int, int, int]]:
-    """Size, time and inode of every file below a folder."""
-    found = {}
-    for where, _, names in os.walk(folder):
-        for name in names:
-            path = os.path.join(where, name)
-            status = os.stat(path)
-            found[os.path.relpath(path, folder)] = (status.st_size, status.st_mtime_ns, status.st_ino)
-    return found
-
-
-class Primed:
-    """A crate's incremental folder after a check of the crate as it is; it is only copied from."""
-
-    def __init__(self, kit: Kit, crate: str, folder: str) -> None:
-        self.kit = kit
-        self.crate = crate
-        self.source = os.path.join(kit.root, "crates", crate)
-        self.incremental = folder
-        os.makedirs(folder)
-        found = kit.check(crate, self.source, self.incremental)
+    def build(self, crate: str, folder: str, incremental: str, program: str) -> Verdict:
+        """The checker's verdict on a program, which is also compiled and linked where it is proved."""
+        tools = ["--toolchain", self.tools]
+        words = self.words("build", crate, folder, incremental)
+        found = asked(words + tools + ["-o", f"{program}.o"])
         if found.answer != PROVED:
-            raise CheckerError(f"{found.said}\n{crate} is not proved as it is")
+            return found
+        link = [os.path.join(self.own, "bin", "rattle-link"), "--target", "x86_64-unknown-linux-gnu"]
+        link += tools + ["-o", program, f"{program}.o"]
+        if "os" in self.dependencies(crate):
+            link.append(os.path.join(self.home, "lib", "libos_c.a"))
+        ended = subprocess.run(link, stdin=subprocess.DEVNULL, stdout=subprocess.PIPE, stderr=subprocess.STDOUT)
+        said = found.said + ended.stdout.decode("utf-8", "replace")
+        return Verdict(PROVED if ended.returncode == 0 else NOT_TOLD, said)
 
 
-class Bench:
-    """A copy of a crate and of its incremental folder, in which one mutant after the other is checked."""
-
-    def __init__(self, primed: Primed, folder: str) -> None:
-        self.primed = primed
-        self.folder = os.path.join(folder, primed.crate)
-        self.incremental = os.path.join(folder, "incremental")
-        for part in ("src", "specs", "proofs"):
-            if os.path.isdir(os.path.join(primed.source, part)):
-                shutil.copytree(os.path.join(primed.source, part), os.path.join(self.folder, part))
-        shutil.copytree(primed.incremental, self.incremental)
-        self.stamps = stamps(self.incremental)
-
-    def check_as_it_is(self) -> Verdict:
-        return self.primed.kit.check(self.primed.crate, self.folder, self.incremental)
-
-    def check(self, mutant: Mutant) -> Verdict:
-        """The verdict on a mutant. Both folders are then as they were, so that no verdict rests on another mutant."""
-        path = os.path.join(self.folder, os.path.relpath(mutant.path, os.path.join("crates", mutant.crate)))
-        with open(path, encoding="utf-8") as file:
-            text = file.read()
-        with open(path, "w", encoding="utf-8") as file:
-            file.write(mutant.text)
-        try:
-            return self.check_as_it_is()
-        finally:
-            with open(path, "w", encoding="utf-8") as file:
-                file.write(text)
-            self.restore()
-
-    def restore(self) -> None:
-        now = stamps(self.incremental)
-        for name in now.keys() - self.stamps.keys():
-            os.remove(os.path.join(self.incremental, name))
-        for name, stamp in self.stamps.items():
-            if now.get(name) != stamp:
-                path = os.path.join(self.incremental, name)
-                shutil.copy2(os.path.join(self.primed.incremental, name), path)
-                status = os.stat(path)
-                self.stamps[name] = (status.st_size, status.st_mtime_ns, status.st_ino)
+def asked(words: List[str]) -> Verdict:
+    """What the checker answers to a command."""
+    limited = ["sh", "-c", 'ulimit -t "$0" && exec "$@"', str(SECONDS)]
+    try:
+        ended = subprocess.run(
+            limited + words,
+            stdin=subprocess.DEVNULL,
+            stdout=subprocess.PIPE,
+            stderr=subprocess.STDOUT,
+            timeout=20 * SECONDS,
+        )
+    except subprocess.TimeoutExpired:
+        return Verdict(NOT_TOLD, "no answer")
+    said = ended.stdout.decode("utf-8", "replace")
+    if ended.returncode in (-signal.SIGXCPU, -signal.SIGKILL):
+        return Verdict(NOT_TOLD, f"{said}no answer in {SECONDS} seconds of a processor's time")
+    return verdict(ended.returncode, said)

@@ -1,13 +1,15 @@
 #!/usr/bin/env python3
 """Changes one operator, number, argument or branch of a function's body at a time; the checker must refuse each.
+Where a function of a program promises nothing, the program must write something else than the gate wants.
 
     python3 mutants.py [COUNT [SEED]]    COUNT of the mutants, drawn by SEED (1 if not given); all without COUNT
         --crate NAME     only those of a crate; may be given again
+        --unpromised     only those in functions of programs that promise nothing
         --list           print them and check none
-        --keep FOLDER    keep there what the checker says of each
+        --keep FOLDER    keep there what the checker, or the program, says of each
 
-A mutant that is the same program stands in same_program.txt with its reason. Exit status 1 where the checker proves
-another one, or tells nothing of it. MUTANTS_JOBS is how many checks run at a time.
+A mutant that is the same program stands in same_program.txt with its reason. Exit status 1 where another one passes, or
+nothing is told of it. MUTANTS_JOBS is how many checks run at a time.
 """
 
 from __future__ import annotations
@@ -28,10 +30,12 @@ ROOT = os.path.dirname(HERE)
 sys.path.insert(0, HERE)
 
 import catalogue  # noqa: E402
+from bench import Bench, Primed  # noqa: E402
 from catalogue import ListError, Mutant  # noqa: E402
 from changes import KINDS  # noqa: E402
 from checker import AT_A_FACT, BY_SHAPE, NO_PROGRAM, NOT_TOLD, PROVED  # noqa: E402
-from checker import Bench, CheckerError, Kit, Primed, Verdict  # noqa: E402
+from checker import CheckerError, Kit, Verdict  # noqa: E402
+from program import BY_OUTPUT, TESTS  # noqa: E402
 from source import SourceError  # noqa: E402
 
 LIST = os.path.join(HERE, "same_program.txt")
@@ -42,6 +46,7 @@ COLUMNS = (
     ("at a fact", AT_A_FACT),
     ("by shape", BY_SHAPE),
     ("no program", NO_PROGRAM),
+    ("by output", BY_OUTPUT),
     ("same", SAME),
     ("not told", NOT_TOLD),
     ("survive", SURVIVES),
@@ -132,11 +137,11 @@ class Run:
     def check_crate(self, crate: str, bench: Bench) -> None:
         while (mutant := self.schedule.take_mutant(crate)) is not None:
             began = time.monotonic()
-            found = bench.check(mutant)
+            found = bench.judge(mutant)
             self.record(mutant, found, time.monotonic() - began)
-        found = bench.check_as_it_is()
+        found = bench.judge_as_it_is()
         if found.answer != PROVED:
-            raise CheckerError(f"{found.said}\n{crate} is not proved as it is, after its mutants")
+            raise CheckerError(f"{found.said}\n{crate} does not pass as it is, after its mutants")
 
     def record(self, mutant: Mutant, found: Verdict, seconds: float) -> None:
         result = SURVIVES if found.answer == PROVED else found.answer
@@ -204,7 +209,10 @@ def report(run: Run, crates: Sequence[str], minutes: float) -> int:
     counts = Counter(run.results.values())
     bad = counts[SURVIVES] + counts[NOT_TOLD]
     refused = counts[AT_A_FACT] + counts[BY_SHAPE]
-    print(f"{refused} refused, {counts[SAME]} the same program, {bad} survive or are not told; {minutes:.0f} minutes")
+    print(
+        f"{refused} refused, {counts[BY_OUTPUT]} wrong by their output, {counts[SAME]} the same program,"
+        f" {bad} survive or are not told; {minutes:.0f} minutes"
+    )
     return 1 if bad else 0
 
 
@@ -220,6 +228,7 @@ def options(words: Sequence[str]) -> argparse.Namespace:
     parser.add_argument("count", nargs="?", type=int, metavar="COUNT")
     parser.add_argument("seed", nargs="?", type=int, default=1, metavar="SEED")
     parser.add_argument("--crate", action="append", default=[], metavar="NAME")
+    parser.add_argument("--unpromised", action="store_true")
     parser.add_argument("--list", action="store_true")
     parser.add_argument("--keep", metavar="FOLDER")
     found = parser.parse_args(words)
@@ -240,6 +249,8 @@ def main(words: Sequence[str]) -> int:
         listed = catalogue.read_list(file.read())
     catalogue.check_list(listed, everything)
     mutants = [mutant for mutant in everything if mutant.crate in wanted.crates]
+    if wanted.unpromised:
+        mutants = [mutant for mutant in mutants if not mutant.promised and mutant.crate in TESTS]
     if wanted.count is not None:
         mutants = catalogue.drawn(mutants, wanted.count, wanted.seed)
     if wanted.list:

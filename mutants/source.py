@@ -44,10 +44,12 @@ class Token:
 
 @dataclass(frozen=True)
 class Body:
-    """A function's body or a constant's value: its name and the places of its first token and of the one after it."""
+    """A function's body or a constant's value: its name and the places of its first token and of the one after it.
+    A function without an `ensures` and a constant promise nothing."""
 
     name: str
     constant: bool
+    promised: bool
     first: int
     last: int
 
@@ -163,6 +165,11 @@ def read_source(path: str, text: str) -> Source:
     return source
 
 
+def has_promise(text: str) -> bool:
+    """Whether an `ensures` stands in the text, outside its comments."""
+    return any(found.group().startswith("ensures") for found in SKIPPED.finditer(text))
+
+
 def bodies(source: Source, place: int, last: int, owner: str) -> Iterator[Body]:
     """The bodies and constants of the items from a place on, with the type that an `impl` is for before their names."""
     tokens = source.tokens
@@ -172,13 +179,14 @@ def bodies(source: Source, place: int, last: int, owner: str) -> Iterator[Body]:
             start = source.find(place, last, "{", ";")
             if start is None or tokens[start].text == ";":
                 raise SourceError(f"{source.path}: {tokens[place + 1].text} has no body")
-            yield Body(owner + tokens[place + 1].text, False, start + 1, source.partner[start])
+            promised = has_promise(source.text[tokens[place].start : tokens[start].start])
+            yield Body(owner + tokens[place + 1].text, False, promised, start + 1, source.partner[start])
             place = start
         elif word == "const":
             value = source.find(place, last, "=")
             end = source.find(place, last, ";")
             assert value is not None and end is not None
-            yield Body(owner + tokens[place + 1].text, True, value + 1, end)
+            yield Body(owner + tokens[place + 1].text, True, False, value + 1, end)
             place = end
         elif word == "impl":
             start = source.find(place, last, "{")

@@ -8,14 +8,17 @@ import os
 import sys
 import tempfile
 import unittest
-from typing import List
+from typing import Dict, List
+from unittest import mock
 
 HERE = os.path.dirname(os.path.abspath(__file__))
 ROOT = os.path.dirname(HERE)
 sys.path.insert(0, HERE)
 
+import bench  # noqa: E402
 import catalogue  # noqa: E402
 import checker  # noqa: E402
+import program  # noqa: E402
 from changes import Change, applied, changes_of  # noqa: E402
 from declared import Declared  # noqa: E402
 from literals import byte_literal, byte_of, with_number  # noqa: E402
@@ -84,6 +87,12 @@ class Bodies(unittest.TestCase):
                 text = applied(source, change)
                 self.assertIn("⌜ n + 1 ≤ 2 ⌝ × record { a = 1; b = { 2 } }", text)
                 self.assertTrue(text.startswith("// 1 + 2\n"))
+
+    def test_only_a_function_with_an_ensures_promises(self) -> None:
+        source = read_source("a.rt", CONTRACTS)
+        self.assertEqual([False, False, True, False], [body.promised for body in source.bodies])
+        text = "fn f(a: u64) // ensures { a }\n    requires { ⌜ a < 2 ⌝ }\n{ a; }\n" + function("a")
+        self.assertEqual([False, True], [body.promised for body in read_source("a.rt", text).bodies])
 
     def test_what_is_no_source_is_refused(self) -> None:
         for text in ("fn f() { λ }", "fn f() { (] }", "fn f() {", "fn f() ensures { ⌜ ⌝ {}"):
@@ -253,6 +262,95 @@ class Verdicts(unittest.TestCase):
         proved = "logic=proved functions=1\n"
         for status, said in ((3, "rattle: no verdict\n"), (2, "a\n"), (1, "killed\n"), (0, ""), (1, proved), (-9, "")):
             self.assertEqual(checker.NOT_TOLD, self.answer(status, said))
+
+
+class Programs(unittest.TestCase):
+    """A program in Python in place of a built one."""
+
+    def fault(self, text: str, stored: Dict[str, str], seconds: int = 20) -> str:
+        with tempfile.TemporaryDirectory() as folder:
+            for name, content in {"program.py": text, **stored}.items():
+                os.makedirs(os.path.dirname(os.path.join(folder, name)), exist_ok=True)
+                with open(os.path.join(folder, name), "w", encoding="utf-8") as file:
+                    file.write(content)
+            return program.fault_of_run([sys.executable], os.path.join(folder, "program.py"), folder, seconds)
+
+    def test_a_program_that_does_as_stored_passes(self) -> None:
+        text = "import sys\nprint(sys.argv[1:], sys.stdin.read(), open('data of it').read())\n"
+        stored = {"args": "a b\nc\n", "stdin": "in", "data/data of it": "x", "stdout": "['a b', 'c'] in x\n"}
+        self.assertEqual("", self.fault(text, stored))
+        for part in stored:
+            self.assertNotEqual("", self.fault(text, {**stored, part: stored[part].replace("in", "y") + "z\n"}), part)
+
+    def test_what_is_not_stored_is_empty(self) -> None:
+        empty = "import os, sys\nassert os.listdir('.') == sys.argv[1:] == sys.stdin.readlines() == []\n"
+        self.assertEqual("", self.fault(empty, {}))
+        for part in ("stdin", "args", "data/a"):
+            self.assertIn("ended with status 1", self.fault(empty, {part: "a"}))
+        self.assertIn("wrote 2 bytes, stored are 0", self.fault("print(1)", {}))
+
+    def test_a_program_that_does_otherwise_is_told(self) -> None:
+        stored = {"stdout": "abc\n"}
+        self.assertEqual("", self.fault("print('abc')", stored))
+        self.assertIn("from byte 2: b'd\\n'", self.fault("print('abd')", stored))
+        self.assertIn("from byte 0: b''", self.fault("", stored))
+        failing = "import sys\nprint('abc')\nprint('no', file=sys.stderr)\nsys.exit(3)\n"
+        self.assertIn("ended with status 3: no", self.fault(failing, stored))
+
+    def test_a_program_without_end_is_told(self) -> None:
+        self.assertIn("ended with status", self.fault("while True:\n    pass\n", {}, 1))
+        self.assertIn("ended with status", self.fault("while True:\n    print('a' * 1_000_000)\n", {}))
+
+    def test_a_test_that_fails_is_told(self) -> None:
+        with tempfile.TemporaryDirectory() as folder:
+            path = os.path.join(folder, "test")
+            with open(path, "w", encoding="utf-8") as file:
+                file.write('#!/bin/sh\necho "$1 $2"\n[ "$2" = right ]\n')
+            os.chmod(path, 0o755)
+            self.assertEqual("", program.fault_of_test(folder, ["test", "of"], "right"))
+            self.assertEqual("test: of wrong\n", program.fault_of_test(folder, ["test", "of"], "wrong"))
+
+    def test_every_program_has_the_test_of_the_gate(self) -> None:
+        names = catalogue.crate_names(ROOT)
+        found = [name for name in names if os.path.isfile(os.path.join(ROOT, "crates", name, "src", "main.rt"))]
+        self.assertEqual(sorted(found), sorted(program.TESTS))
+        with open(os.path.join(ROOT, "kufandra"), encoding="utf-8") as file:
+            gate = file.read()
+        for name, words in program.TESTS.items():
+            self.assertIn(f" {' '.join(words)} target/bin/{name}\n", gate)
+
+
+class Judges(unittest.TestCase):
+    """Which judge a crate has: a kit that only says what it was asked."""
+
+    def judge(self, promised: bool, is_program: bool) -> str:
+        kit = mock.Mock(spec=checker.Kit)
+        kit.is_program.return_value = is_program
+        kit.check.return_value = checker.Verdict(checker.PROVED, "checked")
+        kit.build.return_value = checker.Verdict(checker.AT_A_FACT, "built")
+        return bench.judged(kit, "one", "folder", "incremental", promised).said
+
+    def test_the_checker_judges_what_is_promised_and_what_is_no_program(self) -> None:
+        for promised, is_program in ((True, True), (True, False), (False, False)):
+            self.assertEqual("checked", self.judge(promised, is_program))
+
+    def test_a_program_that_promises_nothing_is_built(self) -> None:
+        self.assertEqual("built", self.judge(False, True))
+
+    def test_a_proved_program_is_judged_by_its_runs(self) -> None:
+        kit = mock.Mock(spec=checker.Kit, root="/nowhere", tools="/nowhere")
+        kit.is_program.return_value = True
+        kit.build.return_value = checker.Verdict(checker.PROVED, "built ")
+        for run, test, answer in (
+            ("", "", checker.PROVED),
+            ("other bytes", "", program.BY_OUTPUT),
+            ("", "other answer", program.BY_OUTPUT),
+        ):
+            with mock.patch.object(program, "fault_of_run", return_value=run):
+                with mock.patch.object(program, "fault_of_test", return_value=test):
+                    found = bench.judged(kit, "vectors", "folder", "incremental", False)
+            self.assertEqual(answer, found.answer)
+            self.assertEqual(f"built {run or test}".strip(), found.said.strip())
 
 
 if __name__ == "__main__":

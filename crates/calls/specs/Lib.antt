@@ -1,2 +1,3 @@
 -- What the contracts of the calls cite beside the rules.
 pub mod Answers
+pub mod Read

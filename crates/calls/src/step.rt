@@ -4,6 +4,7 @@ ghost use mathlib.Core.Bool.{true};
 ghost use mathlib.Core.Path.{_≡_};
 ghost use Prim.Native.Nat.{_+_};
 ghost use Rattle.calls.specs.Answers.{stepAnswered};
+ghost use Rattle.calls.specs.Read.{ReadAs, SomeRead};
 ghost use Rattle.rules.specs.Calls.{called, calledNumbers};
 ghost use Rattle.rules.specs.Outcome.{answerNumbers};
 ghost use Rattle.rules.specs.Quantities.{within, stepLimits, clockLimits};
@@ -30,7 +31,50 @@ pub enum Stepped {
     Refused(Refusal),
 }
 
-// A step within its limits, on a layer that is lent by its parts; the water is left as the step leaves it.
+// A step within its limits, on a layer that is set up and read; the water is left as the step leaves it.
+pub fn step_read<'a>(
+    frame: Frame,
+    progress: Progress,
+    slope: u64,
+    sensitivity: &'a [u64; 128],
+    low: &'a [u64; 128],
+    high: &'a [u64; 128],
+    excess: &'a [i64; 128],
+    resistance: &'a [u64; 128],
+    water: &mut [u64; 128],
+    t: u64,
+) -> Stepped
+    requires { ⌜ SomeRead frame progress slope (now sensitivity) (now low) (now high) (now excess) (now resistance) (now water) ⌝ }
+    requires { ⌜ (within stepLimits t ≡ true) × (within clockLimits (progress .clock .0 + t) ≡ true) ⌝ }
+    requires { ⌜ length (now water) ≡ 128 ⌝ }
+    ensures { λ s. ⌜ ((r : Record) → ReadAs r frame progress slope (now (sensitivity .entry)) (now (low .entry)) (now (high .entry)) (now (excess .entry)) (now (resistance .entry)) (now (water .entry)) → stepAnswered r s (now (water .exit)) ≡ called r (Step t)) ⌝ }
+{
+    let n = frame.elements;
+    let top = frame.top;
+    let bottom = frame.bottom;
+    if reach::too_long(n, top, bottom, slope, resistance, sensitivity, t) {
+        return Stepped::Refused(Refusal::StepTooLong);
+    }
+    let mut above = [0i64; 128];
+    let moved = motion::advance(
+        n,
+        top,
+        bottom,
+        t,
+        excess,
+        resistance,
+        low,
+        high,
+        &mut above,
+        water,
+    );
+    match moved {
+        Moved::Leaves => Stepped::Refused(Refusal::StepOffCurve),
+        Moved::Flows(first, last) => Stepped::Done(state::later(progress, t, first, last)),
+    }
+}
+
+// A step within its limits, on a layer that is lent by its parts: it is set up, read, and then moved.
 pub fn step_lent<'a>(
     counts: CurveCounts,
     frame: Frame,
@@ -52,18 +96,13 @@ pub fn step_lent<'a>(
     requires { λ _. ⌜ length (now water) ≡ 128 ⌝ }
     ensures { λ r s. ⌜ stepAnswered r s (now (water .exit)) ≡ called r (Step t) ⌝ }
 {
-    let n = frame.elements;
-    let m = counts.compressibility;
-    let top = frame.top;
-    let bottom = frame.bottom;
-    let load = progress.load;
     let mut sensitivity = [0u64; 128];
     let mut low = [0u64; 128];
     let mut high = [0u64; 128];
     let slope = motion::prepare(
-        n,
+        frame.elements,
         solids,
-        m,
+        counts.compressibility,
         void,
         stress,
         &mut sensitivity,
@@ -75,7 +114,7 @@ pub fn step_lent<'a>(
     reading::read_layer(
         counts,
         frame,
-        load,
+        progress.load,
         void,
         stress,
         conductivity_void,
@@ -85,26 +124,18 @@ pub fn step_lent<'a>(
         &mut excess,
         &mut resistance,
     );
-    if reach::too_long(n, top, bottom, slope, &resistance, &sensitivity, t) {
-        return Stepped::Refused(Refusal::StepTooLong);
-    }
-    let mut above = [0i64; 128];
-    let moved = motion::advance(
-        n,
-        top,
-        bottom,
-        t,
-        &excess,
-        &resistance,
+    step_read(
+        frame,
+        progress,
+        slope,
+        &sensitivity,
         &low,
         &high,
-        &mut above,
+        &excess,
+        &resistance,
         water,
-    );
-    match moved {
-        Moved::Leaves => Stepped::Refused(Refusal::StepOffCurve),
-        Moved::Flows(first, last) => Stepped::Done(state::later(progress, t, first, last)),
-    }
+        t,
+    )
 }
 
 // A step within its limits, on a layer.

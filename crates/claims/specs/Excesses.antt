@@ -11,7 +11,7 @@ use Rattle.laws.specs.Every.{Every}
 use Rattle.laws.specs.Spread.{Holds, stays-between}
 use Rattle.numbers.specs.Signed.{signed, one-sided, add-parts, sub-parts}
 use Rattle.rules.specs.Curve.{valueOf}
-use Rattle.rules.specs.Layer.{Site, State, effectiveStress, excessPressure, element, elementsFrom, elements, burdens}
+use Rattle.rules.specs.Layer.{Site, State, skeleton, effectiveStress, excessPressure, element, elementsFrom, elements, burdens}
 use Rattle.rules.specs.Load.{withLoad}
 use Rattle.rules.specs.Run.{Event, loadSet, stepTaken}
 use Rattle.rules.specs.Tally.{Tally, rise, recorded, tallied}
@@ -43,7 +43,7 @@ module _ (site : Site) (P Q : ℤ → Type 0) (old new : ℤ) (move : (p : ℤ) 
   loaded-from (B ∷ Bs) [] Ws h = tt
   loaded-from (B ∷ Bs) (S ∷ Ss) [] h = tt
   loaded-from (B ∷ Bs) (S ∷ Ss) (W ∷ Ws) h = (
-    subst Q (moves old new (pos B) (valueOf (effectiveStress site.compressibility S W))) (move _ (h .0)),
+    subst Q (moves old new (pos B) (valueOf (effectiveStress (skeleton site) S W))) (move _ (h .0)),
     loaded-from Bs Ss Ws (h .1),
   )
 

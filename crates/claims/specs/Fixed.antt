@@ -20,7 +20,7 @@ use Rattle.numbers.specs.Interval.{Within}
 use Rattle.numbers.specs.Lists.{all}
 use Rattle.numbers.specs.Searches.{passed, is-true, both, joined}
 use Rattle.rules.specs.Curve.{Point, compressibilitySound, conductivitySound}
-use Rattle.rules.specs.Layer.{Site, State, effectiveStress, topPressure, bottomPressure}
+use Rattle.rules.specs.Layer.{Site, State, skeletonOf, effectiveStress, topPressure, bottomPressure}
 use Rattle.rules.specs.Load.{tableSound}
 use Rattle.rules.specs.Quantities.{within, withinℤ, levelLimits, solidsLimits, waterLimits, stressLimits, clockLimits, startingWaterLimits, outflowRate}
 use Rattle.rules.specs.Record.{headerSound, faceNumber, closedAtZero, sizesSound, faceHolds, outflowSound, isLayer}
@@ -101,12 +101,12 @@ sound-site r f =
 
 -- water on a sound curve is within its limits
 pub water-limited : (curve : List Point) (Ss Ws : List ℕ) → T (compressibilitySound curve) → Every (λ S. 0 < S) Ss →
-    Every (λ S. S ≤ solidsLimits .most) Ss → length Ws ≡ length Ss → T (allOnCurve curve Ss (map pos Ws)) → Every (λ W. W ≤ waterLimits .most) Ws
+    Every (λ S. S ≤ solidsLimits .most) Ss → length Ws ≡ length Ss → T (allOnCurve (skeletonOf curve) Ss (map pos Ws)) → Every (λ W. W ≤ waterLimits .most) Ws
 unfolding Every allOnCurve onCurve effectiveStress
 water-limited curve Ss [] sound solid small n t = tt
 water-limited curve [] (W ∷ Ws) sound solid small n t = absurd (omega arith)
 water-limited curve (S ∷ Ss) (W ∷ Ws) sound solid small n t =
-    let (on, more) = both (onCurve curve S (pos W)) (allOnCurve curve Ss (map pos Ws)) t in (
+    let (on, more) = both (onCurve (skeletonOf curve) S (pos W)) (allOnCurve (skeletonOf curve) Ss (map pos Ws)) t in (
       water-on-curve S (solid .0) curve W (small .0) sound on,
       water-limited curve Ss Ws sound (solid .1) (small .1) (omega arith) more,
     )

@@ -18,8 +18,8 @@ use Rattle.laws.specs.Steep.{steep-positive}
 use Rattle.numbers.specs.Interval.{Within, within-pos, within-le, within-add, within-sub}
 use Rattle.numbers.specs.Searches.{both, joined}
 use Rattle.numbers.specs.Sums.{sum}
-use Rattle.rules.specs.Curve.{Point, falling, compressibilitySound}
-use Rattle.rules.specs.Layer.{Site, State, elements, bottomPressure}
+use Rattle.rules.specs.Curve.{falling, compressibilitySound}
+use Rattle.rules.specs.Layer.{Site, State, Skeleton, skeleton, elements, bottomPressure}
 use Rattle.rules.specs.Load.{tableSound, withLoad}
 use Rattle.rules.specs.Quantities.{clockLimits, solidsLimits, gravityLimits, elementLimits, outflowRate, mostHeadPressure}
 use Rattle.rules.specs.Run.{Event, loadSet, stepTaken, afterEvent, afterEvents}
@@ -57,7 +57,7 @@ pub record SoundSite (site : Site) : Type 0 where
 -- what a state keeps, on a site and since a starting water
 pub record Kept (site : Site) (start : ℕ) (s : State) : Type 0 where
   pub size : length s.water ≡ length site.solids
-  pub on-curve : T (allOnCurve site.compressibility site.solids (map pos s.water))
+  pub on-curve : T (allOnCurve (skeleton site) site.solids (map pos s.water))
   pub load : LoadKept s.load
   pub clock : s.clock ≤ clockLimits .most
   pub top-bound : Within s.topOutflow (outflowRate * s.clock)
@@ -65,15 +65,16 @@ pub record Kept (site : Site) (start : ℕ) (s : State) : Type 0 where
   pub balanced : pos start ≡ pos (sum s.water) +ℤ s.topOutflow +ℤ s.bottomOutflow
 
 -- heights on the curve are the new heights, as none is negative
-heights-on : (curve : List Point) (Ss ws : List ℕ) (zs : List ℤ) → T (allOnCurve curve Ss zs) → T (allOnCurve curve Ss (map pos (paired newHeight ws zs)))
+heights-on : (soil : Skeleton) (Ss ws : List ℕ) (zs : List ℤ) → T (allOnCurve soil Ss zs) →
+    T (allOnCurve soil Ss (map pos (paired newHeight ws zs)))
 unfolding allOnCurve onCurve paired
-heights-on curve [] ws zs t = tt
-heights-on curve (S ∷ Ss) [] zs t = tt
-heights-on curve (S ∷ Ss) (w ∷ ws) [] t = tt
-heights-on curve (S ∷ Ss) (w ∷ ws) (z ∷ zs) t =
-    let (here, more) = both (onCurve curve S z) (allOnCurve curve Ss zs) t in
-    joined (onCurve curve S (pos (newHeight w z))) (allOnCurve curve Ss (map pos (paired newHeight ws zs))) (on-curve-parts curve S w z here .1)
-    (heights-on curve Ss ws zs more)
+heights-on soil [] ws zs t = tt
+heights-on soil (S ∷ Ss) [] zs t = tt
+heights-on soil (S ∷ Ss) (w ∷ ws) [] t = tt
+heights-on soil (S ∷ Ss) (w ∷ ws) (z ∷ zs) t =
+    let (here, more) = both (onCurve soil S z) (allOnCurve soil Ss zs) t in
+    joined (onCurve soil S (pos (newHeight w z))) (allOnCurve soil Ss (map pos (paired newHeight ws zs))) (on-curve-parts soil S w z here .1)
+    (heights-on soil Ss ws zs more)
 
 module _ (site : Site) (sound : SoundSite site) (start : ℕ) where
   -- a load within its limits keeps it, and so does an accepted step
@@ -101,7 +102,7 @@ module _ (site : Site) (sound : SoundSite site) (start : ℕ) where
       record {
         size = stepped-length site t s (k .size) ∙ k .size;
         on-curve =
-            heights-on site.compressibility site.solids s.water (moved (upwardFlows site.top site.bottom t (elements site s)) s.water)
+            heights-on (skeleton site) site.solids s.water (moved (upwardFlows site.top site.bottom t (elements site s)) s.water)
             (stays-on site s t (a .stays));
         load = k .load;
         clock = a .clock-most;

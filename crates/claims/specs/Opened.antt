@@ -19,7 +19,7 @@ use Rattle.numbers.specs.Filled.{first-length}
 use Rattle.numbers.specs.Interval.{within-pos, within-le}
 use Rattle.numbers.specs.Sums.{sum, sum-le}
 use Rattle.rules.specs.Job.{Description, described, frameOf, jobSite, givenWater, jobCauses}
-use Rattle.rules.specs.Layer.{Site}
+use Rattle.rules.specs.Layer.{Site, skeleton}
 use Rattle.rules.specs.Opening.{openedRecord, refusedOpening, descriptionWater, opening}
 use Rattle.rules.specs.Quantities.{startingWaterLimits, waterLimits}
 use Rattle.rules.specs.Record.{recordSite, recordState}
@@ -100,7 +100,7 @@ module _ (d : Description) (s : Described d) (water : List ℕ) (starts : descri
   unfolding givenWater
   given-many = first-length d.header.elements d.water
 
-  on : Starts (site .compressibility) (site .solids) water
+  on : Starts (skeleton site) (site .solids) water
   unfolding descriptionWater
   on = water-starts site (openingLoad site) d.header.start (givenWater d) water (given-many ∙ sym solids-many) starts
 

@@ -12,8 +12,8 @@ use Rattle.claims.specs.Causes.{none-some}
 use Rattle.laws.specs.Lengths.{burdens-length}
 use Rattle.numbers.specs.Lists.{least}
 use Rattle.numbers.specs.Searches.{passed, joined}
-use Rattle.rules.specs.Curve.{Point}
-use Rattle.rules.specs.Layer.{Site, effectiveStress, burdens}
+use Rattle.rules.specs.Layer.{Site, Skeleton, skeleton, effectiveStress, burdens}
+use Rattle.rules.specs.Quantities.{waterLimits}
 use Rattle.rules.specs.Start.{atMost, restingWater, lastStress, prepended, restingFrom, startWater}
 use Rattle.rules.specs.Step.{onCurve, allOnCurve}
 use Rattle.rules.proofs.Resting.{at-most-parts}
@@ -30,67 +30,67 @@ least-passes test (suc count) n found e = go (test n) refl e (least-passes test 
     go false p e later = later e
 
 -- a height for each element, and all on the curve
-pub record Starts (curve : List Point) (Ss water : List ℕ) : Type 0 where
+pub record Starts (soil : Skeleton) (Ss water : List ℕ) : Type 0 where
   pub size : length water ≡ length Ss
-  pub on-curve : T (allOnCurve curve Ss (map pos water))
+  pub on-curve : T (allOnCurve soil Ss (map pos water))
 
 -- resting water is on the curve
-resting-on : (curve : List Point) (S stress W : ℕ) → restingWater curve S stress ≡ some W → T (onCurve curve S (pos W))
+resting-on : (soil : Skeleton) (S stress W : ℕ) → restingWater soil S stress ≡ some W → T (onCurve soil S (pos W))
 unfolding restingWater onCurve
-resting-on curve S stress W e =
-    at-most-parts (effectiveStress curve S W) stress
-    (least-passes (λ U. atMost (effectiveStress curve S U) stress) 1_000_000_001 0 W e) .0
+resting-on soil S stress W e =
+    at-most-parts (effectiveStress soil S W) stress
+    (least-passes (λ U. atMost (effectiveStress soil S U) stress) (suc (waterLimits .most)) 0 W e) .0
 
 module _ (site : Site) (load : ℕ) where
-  abbrev curve : List Point
-  curve = site.compressibility
+  abbrev soil : Skeleton
+  soil = skeleton site
 
   -- water at rest is
-  resting-starts : (Bs Ss water : List ℕ) → length Bs ≡ length Ss → restingFrom site load Bs Ss ≡ some water → Starts curve Ss water
+  resting-starts : (Bs Ss water : List ℕ) → length Bs ≡ length Ss → restingFrom site load Bs Ss ≡ some water → Starts soil Ss water
   unfolding restingFrom allOnCurve prepended
-  resting-starts [] [] water n e = let same : [] ≡ water = cc in subst (Starts curve []) same (record { size = refl; on-curve = tt })
+  resting-starts [] [] water n e = let same : [] ≡ water = cc in subst (Starts soil []) same (record { size = refl; on-curve = tt })
   resting-starts [] (S ∷ Ss) water n e = absurd (omega arith)
   resting-starts (B ∷ Bs) [] water n e = absurd (omega arith)
   resting-starts (B ∷ Bs) (S ∷ Ss) water n e =
-      under (leb (load + B) (lastStress curve)) e (λ more. resting-starts Bs Ss more (omega arith))
+      under (leb (load + B) (lastStress site.compressibility)) e (λ more. resting-starts Bs Ss more (omega arith))
     where
       Later : Type 0
-      Later = (more : List ℕ) → restingFrom site load Bs Ss ≡ some more → Starts curve Ss more
+      Later = (more : List ℕ) → restingFrom site load Bs Ss ≡ some more → Starts soil Ss more
 
-      each : (o : Option ℕ) (rest : Option (List ℕ)) → restingWater curve S (load + B) ≡ o → restingFrom site load Bs Ss ≡ rest →
-          prepended o rest ≡ some water → Later → Starts curve (S ∷ Ss) water
+      each : (o : Option ℕ) (rest : Option (List ℕ)) → restingWater soil S (load + B) ≡ o → restingFrom site load Bs Ss ≡ rest →
+          prepended o rest ≡ some water → Later → Starts soil (S ∷ Ss) water
       each none rest p q e later = absurd (none-some water e)
       each (some W) none p q e later = absurd (none-some water e)
       each (some W) (some more) p q e later =
           let same : W ∷ more ≡ water = cc in
           let rest = later more q in
-          subst (Starts curve (S ∷ Ss)) same (record {
+          subst (Starts soil (S ∷ Ss)) same (record {
             size = ap suc (rest .size);
             on-curve =
-                joined (onCurve curve S (pos W)) (allOnCurve curve Ss (map pos more)) (resting-on curve S (load + B) W p) (rest .on-curve);
+                joined (onCurve soil S (pos W)) (allOnCurve soil Ss (map pos more)) (resting-on soil S (load + B) W p) (rest .on-curve);
           })
 
       under : (c : Bool) → elim c as (λ _. Option (List ℕ)) [
-        | true ↦ prepended (restingWater curve S (load + B)) (restingFrom site load Bs Ss)
+        | true ↦ prepended (restingWater soil S (load + B)) (restingFrom site load Bs Ss)
         | false ↦ none
-      ] ≡ some water → Later → Starts curve (S ∷ Ss) water
-      under true e later = each (restingWater curve S (load + B)) (restingFrom site load Bs Ss) refl refl e later
+      ] ≡ some water → Later → Starts soil (S ∷ Ss) water
+      under true e later = each (restingWater soil S (load + B)) (restingFrom site load Bs Ss) refl refl e later
       under false e later = absurd (none-some water e)
 
   -- the water of either start is
   pub water-starts : (start : ℕ) (given water : List ℕ) → length given ≡ length site.solids →
-      startWater site start given load ≡ some water → Starts curve site.solids water
+      startWater site start given load ≡ some water → Starts soil site.solids water
   unfolding startWater
   water-starts start given water n e = either (eqb start 0) e
     where
-      on : (c : Bool) → allOnCurve curve site.solids (map pos given) ≡ c →
-          elim c as (λ _. Option (List ℕ)) [ true ↦ some given | false ↦ none ] ≡ some water → Starts curve site.solids water
-      on true p e = let same : given ≡ water = cc in subst (Starts curve site.solids) same (record { size = n; on-curve = passed p })
+      on : (c : Bool) → allOnCurve soil site.solids (map pos given) ≡ c →
+          elim c as (λ _. Option (List ℕ)) [ true ↦ some given | false ↦ none ] ≡ some water → Starts soil site.solids water
+      on true p e = let same : given ≡ water = cc in subst (Starts soil site.solids) same (record { size = n; on-curve = passed p })
       on false p e = absurd (none-some water e)
 
       either : (c : Bool) → elim c as (λ _. Option (List ℕ)) [
-        | true ↦ elim (allOnCurve curve site.solids (map pos given)) [ true ↦ some given | false ↦ none ]
+        | true ↦ elim (allOnCurve soil site.solids (map pos given)) [ true ↦ some given | false ↦ none ]
         | false ↦ restingFrom site load (burdens site.gravity site.solids) site.solids
-      ] ≡ some water → Starts curve site.solids water
-      either true e = on (allOnCurve curve site.solids (map pos given)) refl e
+      ] ≡ some water → Starts soil site.solids water
+      either true e = on (allOnCurve soil site.solids (map pos given)) refl e
       either false e = resting-starts (burdens site.gravity site.solids) site.solids water (burdens-length site.gravity site.solids) e

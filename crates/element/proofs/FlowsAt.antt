@@ -7,7 +7,8 @@ use lib.IntN.{ℤ, pos, _-ℤ_, _*ℤ_}
 use lib.ListN.{length, getD}
 use mathlib.Core.List.{List, [], _∷_}
 use mathlib.Core.Path.{_≡_, refl}
-use Rattle.element.specs.Elements.{mostExcess, mostDifference, mostFlow, elementOf, elementIn, elementsIn, flowAbove}
+use Rattle.element.specs.Elements.{elementOf, elementIn, elementsIn, flowAbove}
+use Rattle.laws.specs.Most.{mostExcess, mostDifference, mostFlow}
 use Rattle.laws.specs.Index.{flow-at}
 use Rattle.laws.specs.Outflow.{HeldWithin}
 use Rattle.laws.specs.Spread.{Holds}

@@ -8,8 +8,7 @@ use Rattle.numbers.specs.Interval.{Within}
 use Rattle.rules.specs.Layer.{Element}
 use Rattle.rules.specs.Step.{flowsAbove}
 use Rattle.rules.specs.declared.quantities.Face.{Face}
--- the most that these can be
-pub use Rattle.laws.specs.Most.{mostBurden, mostExcess, mostDifference, mostResistance, mostFaceResistance, mostSensitivity, mostFlow}
+use Rattle.laws.specs.Most.{mostExcess, mostResistance}
 
 abbrev pub elementOf : (excess : ℤ) (resistance sensitivity : ℕ) → Element
 elementOf excess resistance sensitivity = record { excess = excess; resistance = resistance; sensitivity = sensitivity }

@@ -3,13 +3,13 @@ ghost use lib.IntN.{ℤ, pos, negℤ, _*ℤ_};
 ghost use mathlib.Core.Bool.{true};
 ghost use mathlib.Core.Path.{_≡_};
 ghost use Prim.Native.Nat.{_+_, _≤_, _<_};
-ghost use Rattle.element.specs.Elements.{elementOf, mostBurden, mostExcess, mostDifference, mostResistance, mostFaceResistance};
-ghost use Rattle.laws.specs.Most.{mostWeight};
+ghost use Rattle.element.specs.Elements.{elementOf};
+ghost use Rattle.laws.specs.Most.{mostBurden, mostExcess, mostDifference, mostResistance, mostFaceResistance, mostWeight};
 ghost use Rattle.laws.specs.Outflow.{HeldWithin};
 ghost use Rattle.numbers.specs.Interval.{Within};
 ghost use Rattle.numbers.specs.Rounding.{cut};
 ghost use Rattle.rules.specs.Curve.{points, compressibilitySound};
-ghost use Rattle.rules.specs.Layer.{voidRatio, effectiveStress, buoyantWeight, sensitivity, excessUnder, resistanceWith};
+ghost use Rattle.rules.specs.Layer.{skeletonOf, voidRatio, effectiveStress, buoyantWeight, sensitivity, excessUnder, resistanceWith};
 ghost use Rattle.rules.specs.Step.{outward};
 ghost use Rattle.rules.specs.Quantities.{stressLimits, conductivityLimits, solidsLimits, waterLimits, stepLimits, gravityLimits, curveLimits, pressure};
 use curves::reading;
@@ -39,7 +39,7 @@ pub fn effective_stress<'a>(
     requires { ⌜ (0 < solids) × (water ≤ waterLimits .most) ⌝ }
     requires { ⌜ (curveLimits .least ≤ m) × (m ≤ curveLimits .most) ⌝ }
     requires { ⌜ compressibilitySound (points m (now void) (now stress)) ≡ true ⌝ }
-    ensures { λ r. ⌜ (r .value ≡ effectiveStress (points m (now (void .entry)) (now (stress .entry))) solids water) × (r .segment + 1 < m) ⌝ }
+    ensures { λ r. ⌜ (r .value ≡ effectiveStress (skeletonOf (points m (now (void .entry)) (now (stress .entry)))) solids water) × (r .segment + 1 < m) ⌝ }
 {
     reading::read(m, void, stress, void_ratio(solids, water), hint)
 }

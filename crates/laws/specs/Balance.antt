@@ -11,8 +11,7 @@ use Rattle.numbers.specs.Lists.{paired, firstOr, lastOr}
 use Rattle.numbers.specs.Searches.{both}
 use Rattle.numbers.specs.Signed.{signed, add-parts, sub-parts}
 use Rattle.numbers.specs.Sums.{sum, total}
-use Rattle.rules.specs.Curve.{Point}
-use Rattle.rules.specs.Layer.{Site, State, Element, elements}
+use Rattle.rules.specs.Layer.{Site, State, Skeleton, skeleton, Element, elements}
 use Rattle.rules.specs.Step.{outward, upwardFlows, flowsAbove, moved, newHeight, stepped, onCurve, allOnCurve, leavesCurve}
 use Rattle.rules.specs.declared.quantities.Face.{Face}
 use Rattle.laws.specs.OnCurve.{on-curve-parts, stays-on}
@@ -60,17 +59,17 @@ moved-total below (above ∷ rest) (w ∷ ws) h =
     rw (moved-total above rest ws (omega arith)) (telescope (pos w) below above (pos (sum ws)) (lastOr above rest))
 
 -- water on the curve adds up to itself, as no height of it is negative
-pub on-curve-total : (curve : List Point) (Ss ws : List ℕ) (zs : List ℤ) → length zs ≤ length Ss → length zs ≡ length ws →
-    T (allOnCurve curve Ss zs) → pos (sum (paired newHeight ws zs)) ≡ total zs
+pub on-curve-total : (soil : Skeleton) (Ss ws : List ℕ) (zs : List ℤ) → length zs ≤ length Ss → length zs ≡ length ws →
+    T (allOnCurve soil Ss zs) → pos (sum (paired newHeight ws zs)) ≡ total zs
 unfolding allOnCurve sum total paired
-on-curve-total curve Ss [] [] h k t = refl
-on-curve-total curve Ss (w ∷ ws) [] h k t = absurd (omega arith)
-on-curve-total curve Ss [] (z ∷ zs) h k t = absurd (omega arith)
-on-curve-total curve [] (w ∷ ws) (z ∷ zs) h k t = absurd (omega arith)
-on-curve-total curve (S ∷ Ss) (w ∷ ws) (z ∷ zs) h k t =
-    let (here, more) = both (onCurve curve S z) (allOnCurve curve Ss zs) t in
-    let (e, on) = on-curve-parts curve S w z here in
-    let ih = on-curve-total curve Ss ws zs (omega arith) (omega arith) more in
+on-curve-total soil Ss [] [] h k t = refl
+on-curve-total soil Ss (w ∷ ws) [] h k t = absurd (omega arith)
+on-curve-total soil Ss [] (z ∷ zs) h k t = absurd (omega arith)
+on-curve-total soil [] (w ∷ ws) (z ∷ zs) h k t = absurd (omega arith)
+on-curve-total soil (S ∷ Ss) (w ∷ ws) (z ∷ zs) h k t =
+    let (here, more) = both (onCurve soil S z) (allOnCurve soil Ss zs) t in
+    let (e, on) = on-curve-parts soil S w z here in
+    let ih = on-curve-total soil Ss ws zs (omega arith) (omega arith) more in
     ap₂ _+ℤ_ e ih
 
 -- the flows of a layer move its water by what enters below and leaves above
@@ -93,7 +92,7 @@ module _ (site : Site) (t : ℕ) (s : State) (size : length s.water ≡ length s
   water-change =
       let n = elements-length site s size in
       let m = flows-moved-length site.top site.bottom t (elements site s) s.water n in
-      on-curve-total site.compressibility site.solids s.water (moved flows s.water) (omega arith) m (stays-on site s t stays) ∙
+      on-curve-total (skeleton site) site.solids s.water (moved flows s.water) (omega arith) m (stays-on site s t stays) ∙
       flows-total site.top site.bottom t (elements site s) s.water n
 
   -- the water left and both outflows add up to the same before and after

@@ -14,7 +14,7 @@ use Rattle.numbers.specs.Rounding.{floor, ceil}
 use Rattle.numbers.specs.Division.{le-floor, ceil-le}
 use Rattle.numbers.specs.Searches.{both, joined, same-test}
 use Rattle.rules.specs.Curve.{Point, isOn, falling}
-use Rattle.rules.specs.Layer.{voidRatio, effectiveStress}
+use Rattle.rules.specs.Layer.{skeletonOf, voidRatio, effectiveStress}
 use Rattle.rules.specs.Quantities.{voidLimits, solidsLimits, waterLimits, voidUnit}
 use Rattle.rules.specs.Step.{onCurve}
 use Rattle.rules.proofs.Falling.{firstAbscissa}
@@ -61,7 +61,7 @@ module _ (S : ℕ) (solid : 0 < S) (W : ℕ) where
 module _ (l : List Point) (f : T (falling l)) (two : 2 ≤ length l) (S : ℕ) (solid : 0 < S) where
   -- an element is on a falling curve just where its water lies between the lowest and the highest
   pub water-bounds : (W : ℕ) →
-      isOn (effectiveStress l S W) ≡ leb (lowestWater S (lastAbscissa l)) W && leb W (highestWater S (firstAbscissa l))
+      isOn (effectiveStress (skeletonOf l) S W) ≡ leb (lowestWater S (lastAbscissa l)) W && leb W (highestWater S (firstAbscissa l))
   unfolding effectiveStress
   water-bounds W =
       let low = lowestWater S (lastAbscissa l) in
@@ -69,13 +69,13 @@ module _ (l : List Point) (f : T (falling l)) (two : 2 ≤ length l) (S : ℕ) (
       let on = falling-on l (voidRatio S W) f two in
       let below = lowest-water S solid W (lastAbscissa l) in
       let above = highest-water S solid W (firstAbscissa l) in
-      same-test (isOn (effectiveStress l S W)) (leb low W && leb W high)
+      same-test (isOn (effectiveStress (skeletonOf l) S W)) (leb low W && leb W high)
       (λ t. let (v, u) = on .0 t in joined (leb low W) (leb W high) (le→leb low W (below .0 v)) (le→leb W high (above .0 u)))
       (λ t. let (v, u) = both (leb low W) (leb W high) t in on .1 (below .1 (leb→le low W v), above .1 (leb→le W high u)))
 
   -- the same for a water height that may be negative
   pub on-curve-bounds : (W : ℤ) →
-      onCurve l S W ≡ leZ (pos (lowestWater S (lastAbscissa l))) W && leZ W (pos (highestWater S (firstAbscissa l)))
+      onCurve (skeletonOf l) S W ≡ leZ (pos (lowestWater S (lastAbscissa l))) W && leZ W (pos (highestWater S (firstAbscissa l)))
   unfolding onCurve
   on-curve-bounds (pos W) = water-bounds W
   on-curve-bounds (negsuc W) = refl

@@ -12,7 +12,7 @@ use Rattle.numbers.specs.Searches.{both, by-test}
 use Rattle.numbers.specs.Signed.{one-sided, add-parts, sub-parts}
 use Rattle.numbers.specs.Sums.{sum}
 use Rattle.rules.specs.Curve.{Point, curveAt, isOn, valueOf, compressibilitySound, conductivitySound}
-use Rattle.rules.specs.Layer.{Site, State, height, voidRatio, effectiveStress, hydraulicConductivity, buoyantWeight, burden, burdens}
+use Rattle.rules.specs.Layer.{Site, State, skeleton, skeletonOf, height, voidRatio, effectiveStress, hydraulicConductivity, buoyantWeight, burden, burdens}
 use Rattle.rules.specs.Layer.{excessPressure, resistance, Element, element, elementsFrom, elements}
 use Rattle.rules.specs.Quantities.{stressLimits, solidsLimits, gravityLimits, elementLimits}
 use Rattle.rules.specs.Step.{onCurve, allOnCurve}
@@ -57,7 +57,7 @@ module _ (l : List Point) (sound : T (compressibilitySound l)) where
 
   -- the excess pressure of an element is in range
   pub excess-within : (load : ℤ) (B S W : ℕ) → Between (pos 0) (pos (stressLimits .most)) load → B ≤ mostBurden →
-      Within (excessPressure l load B S W) mostExcess
+      Within (excessPressure (skeletonOf l) load B S W) mostExcess
   unfolding excessPressure effectiveStress
   excess-within load B S W limits h =
       let stress = valueOf (curveAt l (voidRatio S W)) in
@@ -73,7 +73,7 @@ pub record Resists (r : ℕ) : Type 0 where
 
 module _ (l k : List Point) (sound : T (compressibilitySound l)) (sound′ : T (conductivitySound k l)) where
   -- the resistance of an element on the curve is in range
-  pub resistance-ranged : (S W : ℕ) → 0 < S → S ≤ solidsLimits .most → T (isOn (effectiveStress l S W)) → Resists (resistance k S W)
+  pub resistance-ranged : (S W : ℕ) → 0 < S → S ≤ solidsLimits .most → T (isOn (effectiveStress (skeletonOf l) S W)) → Resists (resistance k S W)
   unfolding resistance effectiveStress hydraulicConductivity
   resistance-ranged S W solid h on =
       let kr = conductivity-ranged k l (voidRatio S W) sound′ (conducts k l (voidRatio S W) sound sound′ on) in
@@ -111,19 +111,19 @@ module _ (site : Site) (sound : T (compressibilitySound site.compressibility)) w
   module _ (sound′ : T (conductivitySound site.conductivity site.compressibility)) where
     -- every resistance of a part of the layer on the curve is in range
     from-water : (load : ℤ) (Bs Ss Ws : List ℕ) → Every (λ S. 0 < S) Ss → Every (λ S. S ≤ solidsLimits .most) Ss →
-        T (allOnCurve site.compressibility Ss (map pos Ws)) → Every (λ e. Resists (e .resistance)) (elementsFrom site load Bs Ss Ws)
+        T (allOnCurve (skeleton site) Ss (map pos Ws)) → Every (λ e. Resists (e .resistance)) (elementsFrom site load Bs Ss Ws)
     unfolding Every elementsFrom element allOnCurve onCurve
     from-water load [] Ss Ws solid small t = tt
     from-water load (B ∷ Bs) [] Ws solid small t = tt
     from-water load (B ∷ Bs) (S ∷ Ss) [] solid small t = tt
     from-water load (B ∷ Bs) (S ∷ Ss) (W ∷ Ws) solid small t =
-        let (on, more) = both (onCurve site.compressibility S (pos W)) (allOnCurve site.compressibility Ss (map pos Ws)) t in (
+        let (on, more) = both (onCurve (skeleton site) S (pos W)) (allOnCurve (skeleton site) Ss (map pos Ws)) t in (
           resistance-ranged site.compressibility site.conductivity sound sound′ S W (solid .0) (small .0) on,
           from-water load Bs Ss Ws (solid .1) (small .1) more,
         )
 
     -- every resistance of a layer on the curve is in range
     pub resistances-ranged : (s : State) → Every (λ S. 0 < S) site.solids → Every (λ S. S ≤ solidsLimits .most) site.solids →
-        T (allOnCurve site.compressibility site.solids (map pos s.water)) → Every (λ e. Resists (e .resistance)) (elements site s)
+        T (allOnCurve (skeleton site) site.solids (map pos s.water)) → Every (λ e. Resists (e .resistance)) (elements site s)
     unfolding elements
     resistances-ranged s = from-water s.load (burdens site.gravity site.solids) site.solids s.water

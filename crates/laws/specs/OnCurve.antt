@@ -5,24 +5,24 @@ use lib.IntN.{ℤ, pos, negsuc}
 use mathlib.Core.Bool.{Bool, true, false, not}
 use mathlib.Core.List.{List}
 use mathlib.Core.Path.{_≡_, refl}
-use Rattle.rules.specs.Curve.{Point, isOn}
-use Rattle.rules.specs.Layer.{Site, State, elements, effectiveStress}
+use Rattle.rules.specs.Curve.{isOn}
+use Rattle.rules.specs.Layer.{Site, State, Skeleton, skeleton, elements, effectiveStress}
 use Rattle.rules.specs.Step.{upwardFlows, moved, newHeight, onCurve, allOnCurve, leavesCurve}
 
 -- water on the curve is not negative, so it is the new height, and its effective stress is read
-pub on-curve-parts : (curve : List Point) (S old : ℕ) (z : ℤ) → T (onCurve curve S z) →
-    (pos (newHeight old z) ≡ z) × T (isOn (effectiveStress curve S (newHeight old z)))
+pub on-curve-parts : (soil : Skeleton) (S old : ℕ) (z : ℤ) → T (onCurve soil S z) →
+    (pos (newHeight old z) ≡ z) × T (isOn (effectiveStress soil S (newHeight old z)))
 unfolding onCurve newHeight
-on-curve-parts curve S old (pos W) t = (refl, t)
-on-curve-parts curve S old (negsuc W) t = absurd t
+on-curve-parts soil S old (pos W) t = (refl, t)
+on-curve-parts soil S old (negsuc W) t = absurd t
 
 -- all new water of a step that does not leave the curve is on it
 pub stays-on : (site : Site) (s : State) (t : ℕ) → T (not (leavesCurve site s t)) →
-    T (allOnCurve site.compressibility site.solids (moved (upwardFlows site.top site.bottom t (elements site s)) s.water))
+    T (allOnCurve (skeleton site) site.solids (moved (upwardFlows site.top site.bottom t (elements site s)) s.water))
 unfolding leavesCurve
 stays-on site s t h =
     let new = moved (upwardFlows site.top site.bottom t (elements site s)) s.water in
-    twice-not (allOnCurve site.compressibility site.solids new) h
+    twice-not (allOnCurve (skeleton site) site.solids new) h
   where
     twice-not : (b : Bool) → T (not (not b)) → T b
     twice-not true t = tt

@@ -5,7 +5,7 @@ use native.Mathlib.Omega.{arith}
 use lib.Dec.{T}
 use mathlib.Core.List.{List}
 use Rattle.rules.specs.Curve.{Point, curveAt, isOn, valueOf, falling, steepness}
-use Rattle.rules.specs.Layer.{voidRatio, sensitivity, effectiveStress}
+use Rattle.rules.specs.Layer.{skeletonOf, voidRatio, sensitivity, effectiveStress}
 use Rattle.rules.specs.declared.quantities.CurveValue.{CurveValue}
 use Rattle.rules.proofs.Falling.{on-from-first, never-rises}
 use Rattle.rules.proofs.Resting.{void-ratio-mono}
@@ -38,6 +38,6 @@ water-fall reading K fall S solid = record {
 }
 
 -- so does the effective stress of an element, with the curve's steepness for K, where the curve falls
-pub stress-fall : (l : List Point) → T (falling l) → (S : ℕ) → 0 < S → BoundedFall (effectiveStress l S) (sensitivity S * steepness l)
+pub stress-fall : (l : List Point) → T (falling l) → (S : ℕ) → 0 < S → BoundedFall (effectiveStress (skeletonOf l) S) (sensitivity S * steepness l)
 unfolding effectiveStress
 stress-fall l f S solid = water-fall (curveAt l) (steepness l) (curve-fall l f) S solid

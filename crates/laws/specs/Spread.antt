@@ -9,7 +9,7 @@ use mathlib.Core.List.{List, [], _∷_, map}
 use mathlib.Core.Path.{_∙_}
 use Rattle.numbers.specs.Searches.{both}
 use Rattle.rules.specs.Curve.{falling}
-use Rattle.rules.specs.Layer.{Site, State, Element, element, elementsFrom, elements, burden, burdens, effectiveStress, sensitivity}
+use Rattle.rules.specs.Layer.{Site, State, skeleton, Element, element, elementsFrom, elements, burden, burdens, effectiveStress, sensitivity}
 use Rattle.numbers.specs.Lists.{paired}
 use Rattle.rules.specs.Step.{innerResistance, upward, outward, flowsAbove, upwardFlows, moved, newHeight, stepped, stressSlope}
 use Rattle.rules.specs.Step.{Contact, outerContacts, contactsAbove, contacts, tooLong, onCurve, allOnCurve, leavesCurve}
@@ -28,7 +28,7 @@ Holds P Closed = Unit {0}
 Holds P (Drained held) = P (held .0)
 
 module _ (site : Site) {P : ℤ → Type 0} (convex : Convex P)
-    (fall : (S : ℕ) → 0 < S → BoundedFall (effectiveStress site.compressibility S) (sensitivity S * stressSlope site)) (t : ℕ) where
+    (fall : (S : ℕ) → 0 < S → BoundedFall (effectiveStress (skeleton site) S) (sensitivity S * stressSlope site)) (t : ℕ) where
   -- twice the most by which the stress of an element falls for each nanometre of water
   abbrev K : Element → ℕ
   K e = 2 * (e.sensitivity * stressSlope site)
@@ -39,7 +39,7 @@ module _ (site : Site) {P : ℤ → Type 0} (convex : Convex P)
 
   -- a water height of an element is on the curve
   abbrev on : (S : ℕ) (W : ℤ) → Bool
-  on = onCurve site.compressibility
+  on = onCurve (skeleton site)
 
   -- an element bears what flows through its outer face
   bears-outer : (face : Face) (e : Element) → Holds P face → P e.excess → Every Short (outerContacts face e) →
@@ -58,8 +58,8 @@ module _ (site : Site) {P : ℤ → Type 0} (convex : Convex P)
         P ((element site load B S (newHeight w (pos w -ℤ above +ℤ below))) .excess)
     unfolding element newHeight
     kept-element above below solid old new p leaves enters =
-        let (same, on′) = on-curve-parts site.compressibility S w (pos w -ℤ above +ℤ below) new in
-        principle (fall S solid) w (newHeight w (pos w -ℤ above +ℤ below)) (on-curve-parts site.compressibility S w (pos w) old .1) on′
+        let (same, on′) = on-curve-parts (skeleton site) S w (pos w -ℤ above +ℤ below) new in
+        principle (fall S solid) w (newHeight w (pos w -ℤ above +ℤ below)) (on-curve-parts (skeleton site) S w (pos w) old .1) on′
         convex (load +ℤ pos B) (negℤ above) below (same ∙ +ℤ-assoc (pos w) (negℤ above) below) p leaves enters
 
     -- so does the highest element
@@ -79,7 +79,7 @@ module _ (site : Site) {P : ℤ → Type 0} (convex : Convex P)
     layer Ss Ws = elementsFrom site load (burdens site.gravity Ss) Ss Ws
 
     abbrev allOn : List ℕ → List ℤ → Bool
-    allOn = allOnCurve site.compressibility
+    allOn = allOnCurve (skeleton site)
 
     abbrev Kept : List Element → Type 0
     Kept es = Every (λ e. P (e .excess)) es
@@ -132,7 +132,7 @@ module _ (site : Site) {P : ℤ → Type 0} (convex : Convex P)
 
   -- a step that is not too long and stays on the curve keeps every excess pressure in the set
   pub spread : (s : State) → Every (λ S. 0 < S) site.solids → Holds P site.top → Holds P site.bottom →
-      Every (λ e. P (e .excess)) (elements site s) → T (allOnCurve site.compressibility site.solids (map pos s.water)) →
+      Every (λ e. P (e .excess)) (elements site s) → T (allOnCurve (skeleton site) site.solids (map pos s.water)) →
       T (not (tooLong site s t)) → T (not (leavesCurve site s t)) → Every (λ e. P (e .excess)) (elements site (stepped site t s))
   unfolding elements stepped allOnCurve leavesCurve
   spread s solid top bottom kept old short stays =
@@ -141,7 +141,7 @@ module _ (site : Site) {P : ℤ → Type 0} (convex : Convex P)
 -- such a step keeps every excess pressure between bounds on all of them and on what the drained faces hold
 pub stays-between : (site : Site) (lo hi : ℤ) (t : ℕ) (s : State) → T (falling site.compressibility) → Every (λ S. 0 < S) site.solids →
     Holds (Between lo hi) site.top → Holds (Between lo hi) site.bottom → Every (λ e. Between lo hi (e .excess)) (elements site s) →
-    T (allOnCurve site.compressibility site.solids (map pos s.water)) → T (not (tooLong site s t)) → T (not (leavesCurve site s t)) →
+    T (allOnCurve (skeleton site) site.solids (map pos s.water)) → T (not (tooLong site s t)) → T (not (leavesCurve site s t)) →
     Every (λ e. Between lo hi (e .excess)) (elements site (stepped site t s))
 unfolding stressSlope
 stays-between site lo hi t s falls = spread site (between-convex lo hi) (stress-fall site.compressibility falls) t s

@@ -16,11 +16,12 @@ use Rattle.rules.specs.Quantities.{within, withinℤ, stressLimits, clockLimits
 use Rattle.rules.specs.Record.{recordSite, recordState, outflowSound, stateSound}
 use Rattle.rules.specs.Step.{allOnCurve}
 use Rattle.rules.specs.declared.record.Record.{Record}
+use Rattle.rules.specs.Layer.{skeleton}
 use Rattle.laws.specs.Sizes.{signed-between}
 
 -- a sound state by the tests of its parts
 pub state-by : (r : Record) {a b c d e f g : Bool} →
-    allOnCurve ((recordSite r) .compressibility) ((recordSite r) .solids) (map pos ((recordState r) .water)) ≡ a →
+    allOnCurve (skeleton (recordSite r)) ((recordSite r) .solids) (map pos ((recordState r) .water)) ≡ a →
     withinℤ stressLimits ((recordState r) .load) ≡ b → within clockLimits ((recordState r) .clock) ≡ c →
     within startingWaterLimits (r .layer .frame .«starting_water») ≡ d → outflowSound ((recordState r) .topOutflow) ((recordState r) .clock) ≡ e →
     outflowSound ((recordState r) .bottomOutflow) ((recordState r) .clock) ≡ f →
@@ -36,7 +37,7 @@ outflow-bound outflow clock e = record { bound = leb→le (natAbs outflow) (outf
 
 -- what a sound state says
 pub record StateFacts (r : Record) : Type 0 where
-  pub on-curve : allOnCurve ((recordSite r) .compressibility) ((recordSite r) .solids) (map pos ((recordState r) .water)) ≡ true
+  pub on-curve : allOnCurve (skeleton (recordSite r)) ((recordSite r) .solids) (map pos ((recordState r) .water)) ≡ true
   pub load-between : Between (pos 0) (pos (stressLimits .most)) (r .layer .progress .load .0)
   pub clock-most : r .layer .progress .clock .0 ≤ clockLimits .most
   pub starting-most : r .layer .frame .«starting_water» ≤ startingWaterLimits .most
@@ -49,7 +50,7 @@ unfolding stateSound recordState
 state-facts r e =
     let site = recordSite r in
     let s = recordState r in
-    let a = allOnCurve (site .compressibility) (site .solids) (map pos (s .water)) in
+    let a = allOnCurve (skeleton site) (site .solids) (map pos (s .water)) in
     let b = withinℤ stressLimits (s .load) in
     let c = within clockLimits (s .clock) in
     let d = within startingWaterLimits (r .layer .frame .«starting_water») in

@@ -9,7 +9,7 @@ use Rattle.laws.specs.VoidRatio.{water-on-curve}
 use Rattle.layer.specs.Soil.{Soil, OnSoil}
 use Rattle.numbers.specs.Searches.{passed}
 use Rattle.rules.specs.Curve.{points, curveAt, isOn, valueOf}
-use Rattle.rules.specs.Layer.{voidRatio, effectiveStress, hydraulicConductivity}
+use Rattle.rules.specs.Layer.{skeletonOf, voidRatio, effectiveStress, hydraulicConductivity}
 use Rattle.rules.specs.Quantities.{stressLimits, conductivityLimits, waterLimits}
 
 module _ (m : ℕ) (void stress : List ℕ) (n : ℕ) (conductivityVoid conductivity : List ℕ) (soil : Soil m void stress n conductivityVoid conductivity)
@@ -22,7 +22,7 @@ module _ (m : ℕ) (void stress : List ℕ) (n : ℕ) (conductivityVoid conducti
   water-most =
       water-on-curve S (on .solids-positive) (points m void stress) W (on .solids-most) (passed (soil .compressibility-sound)) is-on
 
-  pub stress-most : valueOf (effectiveStress (points m void stress) S W) ≤ stressLimits .most
+  pub stress-most : valueOf (effectiveStress (skeletonOf (points m void stress)) S W) ≤ stressLimits .most
   unfolding effectiveStress
   stress-most = Excess.stress-most (points m void stress) (passed (soil .compressibility-sound)) (voidRatio S W)
 

@@ -18,7 +18,7 @@ use Rattle.numbers.specs.Lists.{all, paired}
 use Rattle.rules.specs.Curve.{Point, falling}
 use Rattle.rules.proofs.Falling.{firstAbscissa}
 use Rattle.rules.specs.Layer as layer
-use Rattle.rules.specs.Layer.{Site, State, Element, burdens, elements, excessPressure}
+use Rattle.rules.specs.Layer.{Site, State, Skeleton, skeleton, skeletonOf, Element, burdens, elements, excessPressure}
 use Rattle.rules.specs.Step.{Contact, contact, innerResistance, outerResistance, upward, outward, flowsAbove, upwardFlows, moved, outerContacts, contactsAbove, contacts, onCurve, allOnCurve}
 use Rattle.rules.specs.declared.quantities.Face.{Face}
 use Rattle.rules.specs.declared.quantities.Face.the-variants.{Closed, Drained}
@@ -134,10 +134,10 @@ module _ (n : ℕ) (lowest : ℤ) (above : List ℤ) (water : List ℕ) (flow : 
 -- ---- the curve
 
 -- all heights of a table are on the curve just where each is
-pub on-curve-in : (curve : List Point) (n : ℕ) (solids : List ℕ) (W : ℕ → ℤ) →
-    allOnCurve curve (firstPlaces n solids) (tabulate n W) ≡ everyIndex n (λ j. onCurve curve (getD solids j 0) (W j))
+pub on-curve-in : (soil : Skeleton) (n : ℕ) (solids : List ℕ) (W : ℕ → ℤ) →
+    allOnCurve soil (firstPlaces n solids) (tabulate n W) ≡ everyIndex n (λ j. onCurve soil (getD solids j 0) (W j))
 unfolding allOnCurve firstPlaces everyIndex
-on-curve-in curve n solids W = ap (all (λ on. on)) (paired-tabulate (onCurve curve) n (λ i. getD solids i 0) W)
+on-curve-in soil n solids W = ap (all (λ on. on)) (paired-tabulate (onCurve soil) n (λ i. getD solids i 0) W)
 
 module _ (curve : List Point) (falls : T (falling curve)) (two : 2 ≤ length curve) (n : ℕ) (solids low high : List ℕ)
     (solid : (j : ℕ) → j < n → 0 < getD solids j 0)
@@ -146,12 +146,12 @@ module _ (curve : List Point) (falls : T (falling curve)) (two : 2 ≤ length cu
   -- new water between the bounds is on the curve
   pub stays-in : (lowest : ℤ) (above : List ℤ) (water : List ℕ) →
       everyIndex n (staysAt lowest above water low high) ≡
-      allOnCurve curve (firstPlaces n solids) (tabulate n (newWater lowest above water))
+      allOnCurve (skeletonOf curve) (firstPlaces n solids) (tabulate n (newWater lowest above water))
   unfolding everyIndex
   stays-in lowest above water =
-      ap (all (λ on. on)) (tabulate-cong n (staysAt lowest above water low high) (λ j. onCurve curve (getD solids j 0) (newWater lowest above water j))
+      ap (all (λ on. on)) (tabulate-cong n (staysAt lowest above water low high) (λ j. onCurve (skeletonOf curve) (getD solids j 0) (newWater lowest above water j))
       (λ j h. rw (lows j h, highs j h) (sym (on-curve-bounds curve falls two (getD solids j 0) (solid j h) (newWater lowest above water j))))) ∙
-      sym (on-curve-in curve n solids (newWater lowest above water))
+      sym (on-curve-in (skeletonOf curve) n solids (newWater lowest above water))
 
 -- ---- what a step reads
 
@@ -167,7 +167,7 @@ module _ (site : Site) (s : State) (n : ℕ) (solids-many : length site.solids �
   W j = getD s.water j 0
 
   -- the elements of the arrays are those of the definitions
-  pub elements-in : ((j : ℕ) → j < n → getD excess j (pos 0) ≡ excessPressure site.compressibility s.load (B j) (S j) (W j)) →
+  pub elements-in : ((j : ℕ) → j < n → getD excess j (pos 0) ≡ excessPressure (skeleton site) s.load (B j) (S j) (W j)) →
       ((j : ℕ) → j < n → getD resistance j 0 ≡ layer.resistance site.conductivity (S j) (W j)) →
       ((j : ℕ) → j < n → getD sensitivity j 0 ≡ layer.sensitivity (S j)) →
       elements site s ≡ elementsIn n excess resistance sensitivity

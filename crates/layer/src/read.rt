@@ -6,7 +6,7 @@ ghost use Rattle.layer.specs.Segments.{Segments};
 ghost use Rattle.layer.specs.Soil.{Soil, OnSoil, excessAt, resistanceAt};
 ghost use Rattle.numbers.specs.Arrays.{filled};
 ghost use Rattle.rules.specs.Curve.{points};
-ghost use Rattle.rules.specs.Layer.{excessPressure, resistance};
+ghost use Rattle.rules.specs.Layer.{skeletonOf, excessPressure, resistance};
 ghost use Rattle.rules.specs.Quantities.{elementLimits, pressure};
 use curves::reading;
 use rules::quantities::Pressure;
@@ -36,7 +36,7 @@ pub fn read_element<'a>(
 ) -> Read
     requires { ⌜ Soil m (now void) (now stress) n (now «conductivity_void») (now conductivity) ⌝ }
     requires { ⌜ OnSoil m (now void) (now stress) (load .0) burden solids water ⌝ }
-    ensures { λ r. ⌜ (r .excess ≡ pressure (excessPressure (points m (now (void .entry)) (now (stress .entry))) (load .0) burden solids water)) × (r .resistance ≡ resistance (points n (now («conductivity_void» .entry)) (now (conductivity .entry))) solids water) ⌝ }
+    ensures { λ r. ⌜ (r .excess ≡ pressure (excessPressure (skeletonOf (points m (now (void .entry)) (now (stress .entry)))) (load .0) burden solids water)) × (r .resistance ≡ resistance (points n (now («conductivity_void» .entry)) (now (conductivity .entry))) solids water) ⌝ }
     ensures { λ r. ⌜ (r .«stress_segment» + 1 < m) × (r .«conductivity_segment» + 1 < n) ⌝ }
 {
     let found = element::effective_stress(solids, water, m, void, stress, stress_hint);

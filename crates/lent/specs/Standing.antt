@@ -30,7 +30,7 @@ use Rattle.rules.proofs.Sound.{falls-down}
 use Rattle.rules.specs.Curve.{Point, points, isOn, steepness}
 use Rattle.rules.specs.Layer as layer
 use Rattle.laws.specs.Amid.{Between}
-use Rattle.rules.specs.Layer.{State, effectiveStress, burdens}
+use Rattle.rules.specs.Layer.{State, Skeleton, skeletonOf, effectiveStress, burdens}
 use Rattle.rules.specs.Quantities.{stressLimits, solidsLimits, gravityLimits, elementLimits}
 use Rattle.rules.specs.Record.{recordSite, recordState, siteSound, stateSound, isLayer}
 use Rattle.rules.specs.Step.{onCurve, allOnCurve}
@@ -39,14 +39,15 @@ use Rattle.laws.specs.SiteFacts.{SiteFacts, site-facts}
 use Rattle.laws.specs.StateFacts.{StateFacts, state-facts}
 
 -- where all heights are on a curve, each is
-pub each-stands : (curve : List Point) (n : ℕ) (solids water : List ℕ) → allOnCurve curve (firstPlaces n solids) (map pos (firstPlaces n water)) ≡ true →
-    (j : ℕ) → j < n → isOn (effectiveStress curve (getD solids j 0) (getD water j 0)) ≡ true
+pub each-stands : (soil : Skeleton) (n : ℕ) (solids water : List ℕ) →
+    allOnCurve soil (firstPlaces n solids) (map pos (firstPlaces n water)) ≡ true →
+    (j : ℕ) → j < n → isOn (effectiveStress soil (getD solids j 0) (getD water j 0)) ≡ true
 unfolding firstPlaces onCurve
-each-stands curve n solids water e j h =
+each-stands soil n solids water e j h =
     let W : ℕ → ℤ = λ i. pos (getD water i 0) in
-    let all-on : allOnCurve curve (firstPlaces n solids) (tabulate n W) ≡ true =
-    ap (allOnCurve curve (firstPlaces n solids)) (sym (map-tabulate pos n (λ i. getD water i 0))) ∙ e in
-    is-true _ (every-at n (λ i. onCurve curve (getD solids i 0) (W i)) (passed (sym (on-curve-in curve n solids W) ∙ all-on)) j h)
+    let all-on : allOnCurve soil (firstPlaces n solids) (tabulate n W) ≡ true =
+    ap (allOnCurve soil (firstPlaces n solids)) (sym (map-tabulate pos n (λ i. getD water i 0))) ∙ e in
+    is-true _ (every-at n (λ i. onCurve soil (getD solids i 0) (W i)) (passed (sym (on-curve-in soil n solids W) ∙ all-on)) j h)
 
 module _ (r : Record) (is : isLayer r ≡ true) where
   pub site-is : SiteFacts r
@@ -89,9 +90,9 @@ module _ (r : Record) (is : isLayer r ≡ true) where
   }
 
   -- each element is on the curve
-  pub stands : (j : ℕ) → j < n → isOn (effectiveStress curve (getD (r .layer .solids) j 0) (getD (r .layer .water) j 0)) ≡ true
+  pub stands : (j : ℕ) → j < n → isOn (effectiveStress (skeletonOf curve) (getD (r .layer .solids) j 0) (getD (r .layer .water) j 0)) ≡ true
   unfolding recordSite recordState
-  stands = each-stands curve n (r .layer .solids) (r .layer .water) (state-is .on-curve)
+  stands = each-stands (skeletonOf curve) n (r .layer .solids) (r .layer .water) (state-is .on-curve)
 
   -- what is worked out once, in arrays of zeros
   abbrev pub burden : List ℕ
@@ -122,7 +123,7 @@ module _ (r : Record) (is : isLayer r ≡ true) where
 
   -- an element under any load, with any water on the curve
   pub on-soil-with : (load : ℤ) (water : List ℕ) → Between (pos 0) (pos (stressLimits .most)) load →
-      ((j : ℕ) → j < n → isOn (effectiveStress curve (getD (r .layer .solids) j 0) (getD water j 0)) ≡ true) → (j : ℕ) → j < n →
+      ((j : ℕ) → j < n → isOn (effectiveStress (skeletonOf curve) (getD (r .layer .solids) j 0) (getD water j 0)) ≡ true) → (j : ℕ) → j < n →
       OnSoil m (r .soil .«compressibility_void») (r .soil .«compressibility_stress») load (getD burden j 0) (getD (r .layer .solids) j 0) (getD water j 0)
   on-soil-with load water limits on j h = record {
     load-between = limits;

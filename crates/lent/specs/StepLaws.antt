@@ -24,7 +24,7 @@ use Rattle.numbers.specs.Lists.{firstOr, lastOr}
 use Rattle.numbers.specs.Searches.{passed}
 use Rattle.laws.specs.Amid.{Between}
 use Rattle.rules.specs.Curve.{isOn, steepness}
-use Rattle.rules.specs.Layer.{Site, State, elements, effectiveStress}
+use Rattle.rules.specs.Layer.{Site, State, skeletonOf, elements, effectiveStress}
 use Rattle.rules.specs.Calls.{called}
 use Rattle.rules.specs.declared.answers.Answered.{Answered}
 use Rattle.rules.specs.Outcome.{Outcome, refused, outcome}
@@ -101,7 +101,7 @@ module _ (r : Record) (is : isLayer r ≡ true) where
 
   pub on-soil-with-as : {b : List ℕ} (load : ℤ) (water : List ℕ) → b ≡ burden r is →
       Between (pos 0) (pos (stressLimits .most)) load →
-      ((j : ℕ) → j < (r .layer .frame .elements) → isOn (effectiveStress (curve r is) (getD (r .layer .solids) j 0) (getD water j 0)) ≡ true) → (j : ℕ) → j < (r .layer .frame .elements) →
+      ((j : ℕ) → j < (r .layer .frame .elements) → isOn (effectiveStress (skeletonOf (curve r is)) (getD (r .layer .solids) j 0) (getD water j 0)) ≡ true) → (j : ℕ) → j < (r .layer .frame .elements) →
       OnSoil (r .soil .counts .compressibility) (r .soil .«compressibility_void») (r .soil .«compressibility_stress») load (getD b j 0) (getD (r .layer .solids) j 0) (getD water j 0)
   on-soil-with-as load water e limits on j h = rw e (on-soil-with r is load water limits on j h)
 

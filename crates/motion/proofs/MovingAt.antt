@@ -24,7 +24,7 @@ use Rattle.numbers.specs.Lists.{paired, firstOr, lastOr}
 use Rattle.numbers.specs.Searches.{passed, both, same-test, by-test}
 use Rattle.numbers.specs.Signed.{signed}
 use Rattle.rules.specs.Curve.{Point, isOn}
-use Rattle.rules.specs.Layer.{effectiveStress}
+use Rattle.rules.specs.Layer.{skeletonOf, effectiveStress}
 use Rattle.rules.specs.Quantities.{stepLimits, waterLimits}
 use Rattle.rules.specs.Step.{outward, moved, newHeight, onCurve, allOnCurve}
 use Rattle.rules.specs.declared.quantities.Face.{Face}
@@ -127,7 +127,7 @@ module _ (n : ℕ) (some-element : 0 < n) (top bottom : Face) (t : ℕ) (excess 
         everyIndex n (staysAt lowest above water low high) ≡ staysOn curve n solids flows water
     stays-is low high curve solids b =
         stays-in curve (b .falls) (b .two) n solids low high (b .solid) (b .lows) (b .highs) lowest above water ∙
-        ap (λ (l : List ℤ). allOnCurve curve (firstPlaces n solids) l) (sym new-is)
+        ap (λ (l : List ℤ). allOnCurve (skeletonOf curve) (firstPlaces n solids) l) (sym new-is)
 
     -- no flow is out of range
     pub movable : HeldWithin top → HeldWithin bottom → t ≤ stepLimits .most → Readable n excess resistance →
@@ -141,13 +141,13 @@ module _ (n : ℕ) (some-element : 0 < n) (top bottom : Face) (t : ℕ) (excess 
     module _ (curve : List Point) (solids : List ℕ) (j : ℕ) where
       -- the element is on the curve with so much water
       abbrev on : ℕ → Bool
-      on W = isOn (effectiveStress curve (getD solids j 0) W)
+      on W = isOn (effectiveStress (skeletonOf curve) (getD solids j 0) W)
 
       new-on : T (staysOn curve n solids flows water) → j < n → T (on (heightAfter lowest above water j))
       new-on t h =
-          let all-on = ap (λ (l : List ℤ). allOnCurve curve (firstPlaces n solids) l) new-is ∙ on-curve-in curve n solids (newWater lowest above water) in
-          on-curve-parts curve (getD solids j 0) (getD water j 0) (newWater lowest above water j)
-          (every-at n (λ i. onCurve curve (getD solids i 0) (newWater lowest above water i)) (subst T all-on t) j h) .1
+          let all-on = ap (λ (l : List ℤ). allOnCurve (skeletonOf curve) (firstPlaces n solids) l) new-is ∙ on-curve-in (skeletonOf curve) n solids (newWater lowest above water) in
+          on-curve-parts (skeletonOf curve) (getD solids j 0) (getD water j 0) (newWater lowest above water j)
+          (every-at n (λ i. onCurve (skeletonOf curve) (getD solids i 0) (newWater lowest above water i)) (subst T all-on t) j h) .1
 
       -- a step leaves it on the curve if it was on it
       pub kept : on (getD water j 0) ≡ true → on (getD (waterAfter (staysOn curve n solids flows water) flows n water) j 0) ≡ true

@@ -7,7 +7,8 @@ use lib.ListN.{length, getD}
 use mathlib.Core.Bool.{Bool, true, false, not}
 use mathlib.Core.List.{List, [], map}
 use mathlib.Core.Path.{_≡_, refl, sym, ap, subst, _∙_}
-use Rattle.element.specs.Elements.{mostSensitivity, elementsIn, Readable, flowAbove}
+use Rattle.element.specs.Elements.{elementsIn, Readable, flowAbove}
+use Rattle.laws.specs.Most.{mostSensitivity}
 use Rattle.points.proofs.Covers.{ends}
 use Rattle.laws.specs.Bounds.{lowest-most, highest-most}
 use Rattle.laws.specs.Excess as Excess

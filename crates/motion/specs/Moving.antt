@@ -15,6 +15,7 @@ use Rattle.rules.proofs.Falling.{firstAbscissa}
 use Rattle.rules.specs.Curve.{Point, falling}
 use Rattle.rules.specs.Step.{upwardFlows, moved, newHeight, allOnCurve}
 use Rattle.rules.specs.declared.quantities.Face.{Face}
+use Rattle.rules.specs.Layer.{skeletonOf}
 use Rattle.motion.specs.declared.Moved.{Moved}
 use Rattle.motion.specs.declared.Moved.the-variants.{Flows, Leaves}
 
@@ -39,7 +40,7 @@ waterAfter stays flows n water =
 
 -- the flows leave every element on a curve
 abbrev pub staysOn : (curve : List Point) (n : ℕ) (solids : List ℕ) (flows : List ℤ) (water : List ℕ) → Bool
-staysOn curve n solids flows water = allOnCurve curve (firstPlaces n solids) (moved flows (firstPlaces n water))
+staysOn curve n solids flows water = allOnCurve (skeletonOf curve) (firstPlaces n solids) (moved flows (firstPlaces n water))
 
 -- bounds of water within which an element is on a curve
 pub record Bounded (curve : List Point) (n : ℕ) (solids low high : List ℕ) : Type 0 where

@@ -8,11 +8,10 @@ use mathlib.Core.Bool.{Bool, true, false, _&&_, _||_}
 use mathlib.Core.List.{List}
 use mathlib.Core.Option.{Option, none, some}
 use mathlib.Core.Path.{_≡_, refl, sym, ap, _∙_}
-use Rattle.element.specs.Elements.{mostBurden}
 use Rattle.laws.specs.Every.{Every, every-at, every-tabulate}
 use Rattle.laws.specs.Excess.{burdens-most}
 use Rattle.laws.specs.Lengths.{burdens-length}
-use Rattle.laws.specs.Most.{sharpBurden}
+use Rattle.laws.specs.Most.{mostBurden, sharpBurden}
 use Rattle.laws.specs.Sizes.{SoundSizes, sound-sizes}
 use Rattle.laws.specs.SoundHeader.{SoundHeader, kept-header}
 use Rattle.layer.specs.Weights.{burdenAt}

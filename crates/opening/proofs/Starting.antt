@@ -19,7 +19,7 @@ use Rattle.numbers.specs.Lists.{all}
 use Rattle.numbers.specs.Searches.{passed}
 use Rattle.opening.specs.Accepting.{Starting, waterStarted}
 use Rattle.rules.specs.Curve.{Point}
-use Rattle.rules.specs.Layer.{Site}
+use Rattle.rules.specs.Layer.{Site, skeletonOf}
 use Rattle.rules.specs.Quantities.{waterLimits}
 use Rattle.rules.specs.Start.{restingFrom, startWater}
 use Rattle.rules.specs.Step.{allOnCurve}
@@ -32,7 +32,7 @@ use Rattle.start.specs.Rest.{allOrNone, restingHeights}
 module _ {site : Site} {n : ℕ} {solids burden : List ℕ} {curve : List Point} (held : Starting site n solids burden curve) (start : ℕ)
     (given : List ℕ) (load : ℕ) where
   -- start 0: what is given, by the test that all of it is on the curve
-  pub given-found : start ≡ 0 → {on : Bool} → on ≡ allOnCurve curve (firstPlaces n solids) (map pos given) →
+  pub given-found : start ≡ 0 → {on : Bool} → on ≡ allOnCurve (skeletonOf curve) (firstPlaces n solids) (map pos given) →
       startWater site start given load ≡ allOrNone on given
   given-found e is =
       given-start site start given load (eq-eqb start 0 e) ∙

@@ -4,7 +4,7 @@ ghost use lib.ListN.{length, getD};
 ghost use mathlib.Core.Bool.{true, _||_};
 ghost use mathlib.Core.Path.{_≡_};
 ghost use Prim.Native.Nat.{ℕ, _≤_, _<_};
-ghost use Rattle.element.specs.Elements.{mostBurden};
+ghost use Rattle.laws.specs.Most.{mostBurden};
 ghost use Rattle.numbers.specs.Arrays.{firstPlaces, filled};
 ghost use Rattle.numbers.specs.Lists.{all};
 ghost use Rattle.opening.specs.Accepting.{Starting, waterStarted};

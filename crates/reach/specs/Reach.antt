@@ -3,7 +3,8 @@ use Prim.Native.Nat.{ℕ, _≤_, _<_}
 use lib.ListN.{getD}
 use mathlib.Core.Bool.{Bool, not}
 use mathlib.Core.List.{List, []}
-use Rattle.element.specs.Elements.{mostResistance, mostSensitivity, elementsIn}
+use Rattle.element.specs.Elements.{elementsIn}
+use Rattle.laws.specs.Most.{mostResistance, mostSensitivity}
 use Rattle.numbers.specs.Lists.{any, greatest}
 use Rattle.rules.specs.Step.{Contact, contacts, tooLongAt}
 use Rattle.rules.specs.declared.quantities.Face.{Face}

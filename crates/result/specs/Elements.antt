@@ -8,14 +8,14 @@ use lib.ListN.{length, getD, length-append}
 use lib.Seq.{sets}
 use mathlib.Core.List.{List, [], _∷_, _++_, append-nil, append-assoc}
 use mathlib.Core.Path.{_≡_, refl, sym, ap, _∙_}
-use Rattle.element.specs.Elements.{mostExcess}
+use Rattle.laws.specs.Most.{mostExcess}
 use Rattle.encoding.specs.Stores.{sets-append}
 use Rattle.numbers.specs.Arrays.{tabulate, firstPlaces}
 use Rattle.numbers.specs.Bytes.{bytes}
 use Rattle.numbers.specs.Filled.{first-length}
 use Rattle.numbers.specs.Sums.{sum, sum-append}
-use Rattle.rules.specs.Curve.{Point, valueOf}
-use Rattle.rules.specs.Layer.{height, voidRatio, effectiveStress}
+use Rattle.rules.specs.Curve.{valueOf}
+use Rattle.rules.specs.Layer.{Skeleton, height, voidRatio, effectiveStress}
 use Rattle.rules.specs.Quantities.{elementLimits, solidsLimits, waterLimits, mostHeadPressure}
 use Rattle.rules.specs.Result.{word, signedWord, elementWords, porePressure, elementBytes, elementsBytes}
 
@@ -45,11 +45,11 @@ words-stored l a b c d e at W E effective pore first second third fourth fifth =
     refl))
 
 -- they are an element's bytes
-pub element-stored : (curve : List Point) (level load : ℤ) (below B S W E effective : ℕ) (pore : ℤ) (l out : List ℕ) (at : ℕ) →
-    out ≡ sets l at (elementWords W E effective pore) → E ≡ voidRatio S W → effective ≡ valueOf (effectiveStress curve S W) →
-    pore ≡ porePressure curve level load below B S W → out ≡ sets l at (elementBytes curve level load below B S W)
+pub element-stored : (soil : Skeleton) (level load : ℤ) (below B S W E effective : ℕ) (pore : ℤ) (l out : List ℕ) (at : ℕ) →
+    out ≡ sets l at (elementWords W E effective pore) → E ≡ voidRatio S W → effective ≡ valueOf (effectiveStress soil S W) →
+    pore ≡ porePressure soil level load below B S W → out ≡ sets l at (elementBytes soil level load below B S W)
 unfolding elementBytes
-element-stored curve level load below B S W E effective pore l out at stored ratio stress pressure = rw (stored, ratio, stress, pressure) refl
+element-stored soil level load below B S W E effective pore l out at stored ratio stress pressure = rw (stored, ratio, stress, pressure) refl
 
 -- the height of some elements
 unfoldable pub heightOf : (Ss Ws : List ℕ) → ℕ
@@ -72,22 +72,22 @@ unfolding heightOf sum
 height-more solids water j below h =
     rw (first-more j solids, first-more j water, sum-append (firstPlaces j solids), sum-append (firstPlaces j water)) (omega arith)
 
-module _ (curve : List Point) (level load : ℤ) where
+module _ (soil : Skeleton) (level load : ℤ) where
   -- the bytes of an element are five numbers
-  pub element-length : (below B S W : ℕ) → length (elementBytes curve level load below B S W) ≡ 40
+  pub element-length : (below B S W : ℕ) → length (elementBytes soil level load below B S W) ≡ 40
   unfolding elementBytes
   element-length below B S W = simp length-append
 
   -- 40 bytes an element
   pub elements-length : (below : ℕ) (Bs Ss Ws : List ℕ) → length Ss ≡ length Bs → length Ws ≡ length Bs →
-      length (elementsBytes curve level load below Bs Ss Ws) ≡ 40 * length Bs
+      length (elementsBytes soil level load below Bs Ss Ws) ≡ 40 * length Bs
   unfolding elementsBytes
   elements-length below [] Ss Ws h k = refl
   elements-length below (B ∷ Bs) [] Ws h k = absurd (omega arith)
   elements-length below (B ∷ Bs) (S ∷ Ss) [] h k = absurd (omega arith)
   elements-length below (B ∷ Bs) (S ∷ Ss) (W ∷ Ws) h k =
-      let first = elementBytes curve level load below B S W in
-      let rest = elementsBytes curve level load (below + height S W) Bs Ss Ws in
+      let first = elementBytes soil level load below B S W in
+      let rest = elementsBytes soil level load (below + height S W) Bs Ss Ws in
       omega (
         arith,
         length-append first rest,
@@ -97,16 +97,16 @@ module _ (curve : List Point) (level load : ℤ) where
 
   -- one element more comes last, over the height of all others
   pub elements-more : (below : ℕ) (Bs Ss Ws : List ℕ) (B S W : ℕ) → length Ss ≡ length Bs → length Ws ≡ length Bs →
-      elementsBytes curve level load below (Bs ++ (B ∷ [])) (Ss ++ (S ∷ [])) (Ws ++ (W ∷ [])) ≡
-      elementsBytes curve level load below Bs Ss Ws ++ elementBytes curve level load (below + heightOf Ss Ws) B S W
+      elementsBytes soil level load below (Bs ++ (B ∷ [])) (Ss ++ (S ∷ [])) (Ws ++ (W ∷ [])) ≡
+      elementsBytes soil level load below Bs Ss Ws ++ elementBytes soil level load (below + heightOf Ss Ws) B S W
   unfolding elementsBytes heightOf sum
-  elements-more below [] [] [] B S W h k = rw (add-zero below) (append-nil (elementBytes curve level load below B S W))
+  elements-more below [] [] [] B S W h k = rw (add-zero below) (append-nil (elementBytes soil level load below B S W))
   elements-more below [] [] (W′ ∷ Ws) B S W h k = absurd (omega arith)
   elements-more below [] (S′ ∷ Ss) Ws B S W h k = absurd (omega arith)
   elements-more below (B′ ∷ Bs) [] Ws B S W h k = absurd (omega arith)
   elements-more below (B′ ∷ Bs) (S′ ∷ Ss) [] B S W h k = absurd (omega arith)
   elements-more below (B′ ∷ Bs) (S′ ∷ Ss) (W′ ∷ Ws) B S W h k =
-      let first = elementBytes curve level load below B′ S′ W′ in
+      let first = elementBytes soil level load below B′ S′ W′ in
       let same : below + height S′ W′ + (sum Ss + sum Ws) ≡ below + (S′ + sum Ss + (W′ + sum Ws)) = omega arith in
       ap (λ (rest : List ℕ). first ++ rest) (elements-more (below + height S′ W′) Bs Ss Ws B S W (omega arith) (omega arith)) ∙
       rw (same, append-assoc first) refl
@@ -114,7 +114,7 @@ module _ (curve : List Point) (level load : ℤ) where
   module _ (burden solids water : List ℕ) where
     -- the bytes of the first elements of arrays
     abbrev pub firstElements : ℕ → List ℕ
-    firstElements n = elementsBytes curve level load 0 (firstPlaces n burden) (firstPlaces n solids) (firstPlaces n water)
+    firstElements n = elementsBytes soil level load 0 (firstPlaces n burden) (firstPlaces n solids) (firstPlaces n water)
 
     module _ (j : ℕ) where
       abbrev Bs : List ℕ
@@ -132,7 +132,7 @@ module _ (curve : List Point) (level load : ℤ) where
           elements-length 0 Bs Ss Ws (first-length j solids ∙ sym b) (first-length j water ∙ sym b) ∙ ap (λ (n : ℕ). 40 * n) b
 
       first-elements-more : firstElements (j + 1) ≡
-          firstElements j ++ elementBytes curve level load (heightOf Ss Ws) (getD burden j 0) (getD solids j 0) (getD water j 0)
+          firstElements j ++ elementBytes soil level load (heightOf Ss Ws) (getD burden j 0) (getD solids j 0) (getD water j 0)
       first-elements-more =
           let b = first-length j burden in
           rw (first-more j burden, first-more j solids, first-more j water)
@@ -141,7 +141,7 @@ module _ (curve : List Point) (level load : ℤ) where
 
       -- one element more is stored after the others
       pub elements-stored : (l out next : List ℕ) (below : ℕ) → out ≡ sets l 56 (firstElements j) → below ≡ heightOf Ss Ws →
-          next ≡ sets out (56 + 40 * j) (elementBytes curve level load below (getD burden j 0) (getD solids j 0) (getD water j 0)) →
+          next ≡ sets out (56 + 40 * j) (elementBytes soil level load below (getD burden j 0) (getD solids j 0) (getD water j 0)) →
           next ≡ sets l 56 (firstElements (j + 1))
       elements-stored l out next below others height one =
           rw (
@@ -149,7 +149,7 @@ module _ (curve : List Point) (level load : ℤ) where
             others,
             height,
             first-elements-more,
-            sets-append l 56 (firstElements j) (elementBytes curve level load (heightOf Ss Ws) (getD burden j 0) (getD solids j 0) (getD water j 0)),
+            sets-append l 56 (firstElements j) (elementBytes soil level load (heightOf Ss Ws) (getD burden j 0) (getD solids j 0) (getD water j 0)),
             first-elements-length,
           )
           refl

@@ -6,7 +6,7 @@ use mathlib.Core.Bool.{true}
 use mathlib.Core.List.{List}
 use mathlib.Core.Path.{_≡_}
 use native.Mathlib.Omega.{arith}
-use Rattle.element.specs.Elements.{mostExcess}
+use Rattle.laws.specs.Most.{mostExcess}
 use Rattle.laws.specs.Excess as Excess
 use Rattle.laws.specs.Sizes.{signed-between}
 use Rattle.laws.specs.VoidRatio.{water-on-curve}
@@ -17,7 +17,7 @@ use Rattle.numbers.specs.Signed.{one-sided, sub-parts}
 use Rattle.result.specs.Elements.{mostHeight, mostPore}
 use Rattle.rules.specs.Quantities.{head, levelLimits, pressureOf, solidsLimits, stressLimits, waterLimits, withinℤ, mostHeadPressure}
 use Rattle.rules.specs.Curve.{Point, points, valueOf, compressibilitySound}
-use Rattle.rules.specs.Layer.{voidRatio, effectiveStress, excessPressure}
+use Rattle.rules.specs.Layer.{skeletonOf, voidRatio, effectiveStress, excessPressure}
 use Rattle.rules.specs.Result.{nodeHeight, poreOver}
 
 -- the pressure of a head between two levels is in range
@@ -51,11 +51,11 @@ module _ (m : ℕ) (void stress : List ℕ) (sound : compressibilitySound (point
   unfolding effectiveStress
   water-most = water-on-curve S (on .solids-positive) curve W (on .solids-most) (passed sound) (passed (on .on-curve))
 
-  pub stress-most : valueOf (effectiveStress curve S W) ≤ stressLimits .most
+  pub stress-most : valueOf (effectiveStress (skeletonOf curve) S W) ≤ stressLimits .most
   unfolding effectiveStress
   stress-most = Excess.stress-most curve (passed sound) (voidRatio S W)
 
-  pub excess-within : Within (excessPressure curve load B S W) mostExcess
+  pub excess-within : Within (excessPressure (skeletonOf curve) load B S W) mostExcess
   excess-within = Excess.excess-within curve (passed sound) load B S W (on .load-between) (on .burden-most)
 
 -- the node of one of 128 elements lies below the highest level

@@ -22,7 +22,7 @@ use Rattle.numbers.specs.Sums.{sum}
 use Rattle.result.specs.Elements.{elements-length}
 use Rattle.result.specs.HeadLaws.{length-head}
 use Rattle.rules.specs.Curve.{points}
-use Rattle.rules.specs.Layer.{burdens}
+use Rattle.rules.specs.Layer.{skeletonOf, burdens}
 use Rattle.rules.specs.Record.{recordSite, recordState, isLayer}
 use Rattle.rules.specs.Refusals.{firstCause}
 use Rattle.rules.specs.Result.{headBytes, elementsBytes, settlement, resultHead, resultBytes, resultSize, resultRefusal, result, Returned, withheld}
@@ -70,7 +70,7 @@ module _ (r : Record) where
   -- all elements, under burdens in an array
   abbrev standing : (burden : List ℕ) → List ℕ
   standing burden =
-      elementsBytes (points (r .soil .counts .compressibility) (r .soil .«compressibility_void») (r .soil .«compressibility_stress»))
+      elementsBytes (skeletonOf (points (r .soil .counts .compressibility) (r .soil .«compressibility_void») (r .soil .«compressibility_stress»)))
       (r .layer .frame .«top_level» .0) (r .layer .progress .load .0) 0 (firstPlaces n burden) Ss Ws
 
   standing-length : (burden : List ℕ) → length (standing burden) ≡ 40 * n

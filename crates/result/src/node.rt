@@ -4,7 +4,7 @@ ghost use lib.Seq.{sets};
 ghost use mathlib.Core.Bool.{true};
 ghost use mathlib.Core.Path.{_≡_};
 ghost use Prim.Native.Nat.{ℕ, _+_, _*_, _≤_, _<_};
-ghost use Rattle.element.specs.Elements.{mostExcess};
+ghost use Rattle.laws.specs.Most.{mostExcess};
 ghost use Rattle.layer.specs.Soil.{OnSoil};
 ghost use Rattle.numbers.specs.Arrays.{firstPlaces};
 ghost use Rattle.numbers.specs.Interval.{Within};
@@ -12,6 +12,7 @@ ghost use Rattle.result.specs.Elements.{mostHeight, mostPore};
 ghost use Rattle.rules.specs.Curve.{points, compressibilitySound};
 ghost use Rattle.rules.specs.Quantities.{levelLimits, solidsLimits, stressLimits, waterLimits, pressure, withinℤ, elementLimits, curveLimits};
 ghost use Rattle.rules.specs.Result.{nodeHeight, poreOver, elementWords, elementBytes, elementsBytes};
+ghost use Rattle.rules.specs.Layer.{skeletonOf};
 use curves::reading;
 use rules::quantities::Head;
 use rules::quantities::Pressure;
@@ -74,7 +75,7 @@ pub fn write_element<'a>(
     requires { ⌜ (curveLimits .least ≤ m) × (m ≤ curveLimits .most) ⌝ }
     requires { ⌜ compressibilitySound (points m (now void) (now stress)) ≡ true ⌝ }
     requires { ⌜ OnSoil m (now void) (now stress) (load .0) burden solids water ⌝ }
-    ensures { λ _. ⌜ now (out .exit) ≡ sets (now (out .entry)) at (elementBytes (points m (now (void .entry)) (now (stress .entry))) («top_level» .0) (load .0) below burden solids water) ⌝ }
+    ensures { λ _. ⌜ now (out .exit) ≡ sets (now (out .entry)) at (elementBytes (skeletonOf (points m (now (void .entry)) (now (stress .entry)))) («top_level» .0) (load .0) below burden solids water) ⌝ }
 {
     let found = element::effective_stress(solids, water, m, void, stress, 0);
     let value = found.value;
@@ -109,7 +110,7 @@ pub fn write_elements<'a>(
     requires { ⌜ (curveLimits .least ≤ m) × (m ≤ curveLimits .most) ⌝ }
     requires { ⌜ compressibilitySound (points m (now void) (now stress)) ≡ true ⌝ }
     requires { ⌜ ((j : ℕ) → j < n → OnSoil m (now void) (now stress) (load .0) (getD (now burden) j 0) (getD (now solids) j 0) (getD (now water) j 0)) ⌝ }
-    ensures { λ _. ⌜ now (out .exit) ≡ sets (now (out .entry)) 56 (elementsBytes (points m (now (void .entry)) (now (stress .entry))) («top_level» .0) (load .0) 0 (firstPlaces n (now (burden .entry))) (firstPlaces n (now (solids .entry))) (firstPlaces n (now (water .entry)))) ⌝ }
+    ensures { λ _. ⌜ now (out .exit) ≡ sets (now (out .entry)) 56 (elementsBytes (skeletonOf (points m (now (void .entry)) (now (stress .entry)))) («top_level» .0) (load .0) 0 (firstPlaces n (now (burden .entry))) (firstPlaces n (now (solids .entry))) (firstPlaces n (now (water .entry)))) ⌝ }
 {
     let mut below: u64 = 0;
     let mut j: usize = 0;

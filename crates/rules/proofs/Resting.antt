@@ -9,7 +9,7 @@ use mathlib.Core.Path.{_≡_}
 use Rattle.numbers.specs.Division.{floor-mono}
 use Rattle.numbers.specs.Searches.{failed, least-found, least-none}
 use Rattle.rules.specs.Curve.{Point, curveAt, isOn, valueOf, falling}
-use Rattle.rules.specs.Layer.{voidRatio, effectiveStress}
+use Rattle.rules.specs.Layer.{skeletonOf, voidRatio, effectiveStress}
 use Rattle.rules.specs.Quantities.{voidUnit, waterLimits}
 use Rattle.rules.specs.Start.{atMost, restingWater}
 use Rattle.rules.specs.declared.quantities.CurveValue.{CurveValue}
@@ -37,7 +37,7 @@ void-ratio-mono S h U W k = floor-mono h (U * voidUnit) (W * voidUnit) (omega ar
 module _ (curve : List Point) (falls : T (falling curve)) (S : ℕ) (solid : 0 < S) (stress : ℕ) where
   -- up to the curve's first void ratio, what passes the test passes it with more water too
   pub at-most-mono : (U W : ℕ) → U ≤ W → voidRatio S W ≤ firstAbscissa curve →
-      T (atMost (effectiveStress curve S U) stress) → T (atMost (effectiveStress curve S W) stress)
+      T (atMost (effectiveStress (skeletonOf curve) S U) stress) → T (atMost (effectiveStress (skeletonOf curve) S W) stress)
   unfolding effectiveStress
   at-most-mono U W h k t =
       let on = at-most-parts (curveAt curve (voidRatio S U)) stress t .0 in
@@ -45,20 +45,20 @@ module _ (curve : List Point) (falls : T (falling curve)) (S : ℕ) (solid : 0 <
       at-most-lower (curveAt curve (voidRatio S U)) (curveAt curve (voidRatio S W)) stress on′ lower t
 
   pub resting-found : (W : ℕ) → suc W ≤ waterLimits .most → voidRatio S W ≤ firstAbscissa curve →
-      T (atMost (effectiveStress curve S (suc W)) stress) → atMost (effectiveStress curve S W) stress ≡ false →
-      restingWater curve S stress ≡ some (suc W)
+      T (atMost (effectiveStress (skeletonOf curve) S (suc W)) stress) → atMost (effectiveStress (skeletonOf curve) S W) stress ≡ false →
+      restingWater (skeletonOf curve) S stress ≡ some (suc W)
   unfolding restingWater
   resting-found W small on passes fails =
-      least-found (λ U. atMost (effectiveStress curve S U) stress) 1_000_000_001 0 (suc W) passes
-      (λ U h t. failed (atMost (effectiveStress curve S W) stress) fails (at-most-mono U W (omega arith) on t))
+      least-found (λ U. atMost (effectiveStress (skeletonOf curve) S U) stress) (suc (waterLimits .most)) 0 (suc W) passes
+      (λ U h t. failed (atMost (effectiveStress (skeletonOf curve) S W) stress) fails (at-most-mono U W (omega arith) on t))
       (omega arith)
       (omega arith)
 
   -- no height rests under a stress below the curve's first
-  pub resting-none : stress < firstOrdinate curve → restingWater curve S stress ≡ none
+  pub resting-none : stress < firstOrdinate curve → restingWater (skeletonOf curve) S stress ≡ none
   unfolding restingWater effectiveStress
   resting-none h =
-      least-none (λ U. atMost (effectiveStress curve S U) stress) 1_000_000_001 0
+      least-none (λ U. atMost (effectiveStress (skeletonOf curve) S U) stress) (suc (waterLimits .most)) 0
       (λ U t.
       let (on, low) = at-most-parts (curveAt curve (voidRatio S U)) stress t in
       omega (arith, on-from-first curve (voidRatio S U) falls on))

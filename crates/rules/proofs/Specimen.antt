@@ -7,7 +7,7 @@ use mathlib.Core.Option.{some}
 use mathlib.Core.Path.{_≡_, refl}
 use Rattle.rules.specs.Quantities.{waterLimits, pressureOf}
 use Rattle.rules.specs.Curve.{Point, falling}
-use Rattle.rules.specs.Layer.{voidRatio, effectiveStress}
+use Rattle.rules.specs.Layer.{skeletonOf, voidRatio, effectiveStress}
 use Rattle.rules.specs.Record.{recordSite, recordState}
 use Rattle.rules.specs.Start.{atMost, restingWater}
 use Rattle.rules.specs.Outcome.{answerNumber}
@@ -23,9 +23,9 @@ restingCurve load = (jobSite (described (resting load))) .compressibility
 -- the water at rest of each element, where the height passes the test and the one below it fails
 module _ (load W : ℕ) where
   rests : suc W ≤ waterLimits .most → voidRatio 1_000_000 W ≤ 200_000_000 →
-      T (atMost (effectiveStress (restingCurve load) 1_000_000 (suc W)) load) →
-      atMost (effectiveStress (restingCurve load) 1_000_000 W) load ≡ false →
-      restingWater (restingCurve load) 1_000_000 load ≡ some (suc W)
+      T (atMost (effectiveStress (skeletonOf (restingCurve load)) 1_000_000 (suc W)) load) →
+      atMost (effectiveStress (skeletonOf (restingCurve load)) 1_000_000 W) load ≡ false →
+      restingWater (skeletonOf (restingCurve load)) 1_000_000 load ≡ some (suc W)
   unfolding restingCurve falling
   rests small on passes fails = resting-found (restingCurve load) tt 1_000_000 (lit< tt) load W small on passes fails
 

@@ -4,7 +4,7 @@ use lib.IntN.{ℤ, pos, _+ℤ_, _-ℤ_}
 use mathlib.Core.List.{List, [], _∷_, map}
 use Rattle.numbers.specs.Rounding.{floor, ceil}
 use Rattle.numbers.specs.Sums.{sum}
-use Rattle.rules.specs.Quantities.{head, pressure, pressureOf}
+use Rattle.rules.specs.Quantities.{voidUnit, head, pressure, pressureOf}
 use Rattle.rules.specs.Curve.{Point, curveAt, valueOf}
 use Rattle.rules.specs.declared.quantities.CurveValue.{CurveValue}
 use Rattle.rules.specs.declared.quantities.Face.{Face}
@@ -30,6 +30,17 @@ pub record State : Type 0 where
   pub topOutflow : ℤ
   pub bottomOutflow : ℤ
 
+-- The soil's skeleton, which carries the effective stress: what the stress of an element is read from, beside its solids
+-- and its water.
+pub record Skeleton : Type 0 where
+  pub compressibility : List Point
+
+abbrev pub skeletonOf : (compressibility : List Point) → Skeleton
+skeletonOf compressibility = record { compressibility = compressibility }
+
+abbrev pub skeleton : Site → Skeleton
+skeleton site = skeletonOf site.compressibility
+
 -- what a drained top holds
 unfoldable pub topPressure : Pressure
 topPressure = pressure (pos 0)
@@ -45,12 +56,12 @@ height S W = S + W
 
 -- E
 unfoldable pub voidRatio : (S W : ℕ) → ℕ
-voidRatio S W = floor (W * 100_000_000) S
+voidRatio S W = floor (W * voidUnit) S
 
 -- an element is on the curve where this gives a value
-unfoldable pub effectiveStress : (compressibility : List Point) (S W : ℕ) → CurveValue
+unfoldable pub effectiveStress : Skeleton → (S W : ℕ) → CurveValue
 unfolding curveAt voidRatio
-effectiveStress compressibility S W = curveAt compressibility (voidRatio S W)
+effectiveStress soil S W = curveAt soil.compressibility (voidRatio S W)
 
 -- k
 unfoldable pub hydraulicConductivity : (conductivity : List Point) (S W : ℕ) → CurveValue
@@ -77,9 +88,9 @@ abbrev pub excessUnder : (load : ℤ) (B stress : ℕ) → ℤ
 excessUnder load B stress = load +ℤ pos B -ℤ pos stress
 
 -- p
-unfoldable pub excessPressure : (compressibility : List Point) (load : ℤ) (B S W : ℕ) → ℤ
+unfoldable pub excessPressure : Skeleton → (load : ℤ) (B S W : ℕ) → ℤ
 unfolding effectiveStress valueOf
-excessPressure compressibility load B S W = excessUnder load B (valueOf (effectiveStress compressibility S W))
+excessPressure soil load B S W = excessUnder load B (valueOf (effectiveStress soil S W))
 
 -- r, from an element's middle to its face, with conductivity k
 abbrev pub resistanceWith : (S W k : ℕ) → ℕ
@@ -93,7 +104,7 @@ resistance conductivity S W = resistanceWith S W (valueOf (hydraulicConductivity
 -- c, the most by which a nanometre of water moves the void ratio
 unfoldable pub sensitivity : (S : ℕ) → ℕ
 unfolding ceil
-sensitivity S = ceil 100_000_000 S
+sensitivity S = ceil voidUnit S
 
 -- an element as a step reads it
 pub record Element : Type 0 where
@@ -104,7 +115,7 @@ pub record Element : Type 0 where
 unfoldable pub element : Site → (load : ℤ) (B S W : ℕ) → Element
 unfolding excessPressure resistance sensitivity
 element site load B S W = record {
-  excess = excessPressure site.compressibility load B S W;
+  excess = excessPressure (skeleton site) load B S W;
   resistance = resistance site.conductivity S W;
   sensitivity = sensitivity S;
 }

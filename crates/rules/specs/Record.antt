@@ -10,7 +10,7 @@ use Rattle.numbers.specs.Lists.{all}
 use Rattle.numbers.specs.Sums.{sum}
 use Rattle.rules.specs.Quantities.{within, withinℤ, stressLimits, levelLimits, clockLimits, solidsLimits, waterLimits, gravityLimits, elementLimits, curveLimits, tableLimits, flagLimits, startingWaterLimits, outflowRate, pressure}
 use Rattle.rules.specs.Curve.{points, compressibilitySound, conductivitySound}
-use Rattle.rules.specs.Layer.{Site, State, topPressure, bottomPressure}
+use Rattle.rules.specs.Layer.{Site, State, skeleton, topPressure, bottomPressure}
 use Rattle.rules.specs.Step.{allOnCurve}
 use Rattle.rules.specs.Load.{tableSound}
 use Rattle.rules.specs.Run.{Event, afterEvents}
@@ -158,7 +158,7 @@ stateSound r =
     let site = recordSite r in
     let s = recordState r in
     let starting = r .layer .frame .«starting_water» in
-    allOnCurve (site .compressibility) (site .solids) (map pos (s .water)) && withinℤ stressLimits (s .load) &&
+    allOnCurve (skeleton site) (site .solids) (map pos (s .water)) && withinℤ stressLimits (s .load) &&
     within clockLimits (s .clock) && within startingWaterLimits starting &&
     outflowSound (s .topOutflow) (s .clock) && outflowSound (s .bottomOutflow) (s .clock) &&
     eqℤ (pos starting) (pos (sum (s .water)) +ℤ s .topOutflow +ℤ s .bottomOutflow)

@@ -12,8 +12,8 @@ use Rattle.numbers.specs.Integers.{up, signedField}
 use Rattle.numbers.specs.Rounding.{floor}
 use Rattle.numbers.specs.Sums.{sum}
 use Rattle.rules.specs.Quantities.{head, pressureOf}
-use Rattle.rules.specs.Curve.{Point, valueOf}
-use Rattle.rules.specs.Layer.{height, voidRatio, effectiveStress, burdens, excessPressure}
+use Rattle.rules.specs.Curve.{valueOf}
+use Rattle.rules.specs.Layer.{Skeleton, skeleton, height, voidRatio, effectiveStress, burdens, excessPressure}
 use Rattle.rules.specs.Record.{recordSite, recordState, isLayer}
 use Rattle.rules.specs.Refusals.{_if_, firstCause, refusalNumber}
 use Rattle.rules.specs.Run.{stopNumber}
@@ -33,10 +33,10 @@ unfolding pressureOf
 poreOver excess topLevel z = excess +ℤ (pressureOf (head (topLevel -ℤ pos z))) .0
 
 -- that of an element
-unfoldable pub porePressure : (compressibility : List Point) (topLevel load : ℤ) (below B S W : ℕ) → ℤ
+unfoldable pub porePressure : Skeleton → (topLevel load : ℤ) (below B S W : ℕ) → ℤ
 unfolding poreOver excessPressure nodeHeight
-porePressure compressibility topLevel load below B S W =
-    poreOver (excessPressure compressibility load B S W) topLevel (nodeHeight below S W)
+porePressure soil topLevel load below B S W =
+    poreOver (excessPressure soil load B S W) topLevel (nodeHeight below S W)
 
 abbrev pub word : ℕ → List ℕ
 word n = bytes 8 n
@@ -57,19 +57,19 @@ unfolding bytes
 elementWords W E effective pore = word W ++ word E ++ word effective ++ signedWord (pore +ℤ pos effective) ++ signedWord pore
 
 -- those of an element
-unfoldable pub elementBytes : (compressibility : List Point) (topLevel load : ℤ) (below B S W : ℕ) → List ℕ
+unfoldable pub elementBytes : Skeleton → (topLevel load : ℤ) (below B S W : ℕ) → List ℕ
 unfolding elementWords voidRatio effectiveStress valueOf porePressure
-elementBytes compressibility topLevel load below B S W =
-    elementWords W (voidRatio S W) (valueOf (effectiveStress compressibility S W)) (porePressure compressibility topLevel load below B S W)
+elementBytes soil topLevel load below B S W =
+    elementWords W (voidRatio S W) (valueOf (effectiveStress soil S W)) (porePressure soil topLevel load below B S W)
 
-unfoldable pub elementsBytes : (compressibility : List Point) (topLevel load : ℤ) (below : ℕ) (Bs Ss Ws : List ℕ) → List ℕ
+unfoldable pub elementsBytes : Skeleton → (topLevel load : ℤ) (below : ℕ) (Bs Ss Ws : List ℕ) → List ℕ
 unfolding elementBytes
-elementsBytes compressibility topLevel load below [] Ss Ws = []
-elementsBytes compressibility topLevel load below (B ∷ Bs) [] Ws = []
-elementsBytes compressibility topLevel load below (B ∷ Bs) (S ∷ Ss) [] = []
-elementsBytes compressibility topLevel load below (B ∷ Bs) (S ∷ Ss) (W ∷ Ws) =
-    elementBytes compressibility topLevel load below B S W ++
-    elementsBytes compressibility topLevel load (below + height S W) Bs Ss Ws
+elementsBytes soil topLevel load below [] Ss Ws = []
+elementsBytes soil topLevel load below (B ∷ Bs) [] Ws = []
+elementsBytes soil topLevel load below (B ∷ Bs) (S ∷ Ss) [] = []
+elementsBytes soil topLevel load below (B ∷ Bs) (S ∷ Ss) (W ∷ Ws) =
+    elementBytes soil topLevel load below B S W ++
+    elementsBytes soil topLevel load (below + height S W) Bs Ss Ws
 
 -- the starting height less the present one
 unfoldable pub settlement : Record → ℤ
@@ -92,7 +92,7 @@ resultBytes r stop steps =
     let site = recordSite r in
     let s = recordState r in
     resultHead r stop steps ++
-    elementsBytes (site .compressibility) (site .topLevel) (s .load) 0 (burdens (site .gravity) (site .solids)) (site .solids) (s .water)
+    elementsBytes (skeleton site) (site .topLevel) (s .load) 0 (burdens (site .gravity) (site .solids)) (site .solids) (s .water)
 
 -- the length of a result of so many elements
 unfoldable pub resultSize : (elements : ℕ) → ℕ

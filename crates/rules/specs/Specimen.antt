@@ -6,7 +6,7 @@ use mathlib.Core.Path.{_≡_}
 use Rattle.numbers.specs.Bytes.{bytes}
 use Rattle.numbers.specs.Lists.{paired}
 use Rattle.rules.specs.Quantities.{head, pressure, pressureOf}
-use Rattle.rules.specs.Layer.{State, Element, elements, effectiveStress, burdens}
+use Rattle.rules.specs.Layer.{State, skeleton, Element, elements, effectiveStress, burdens}
 use Rattle.rules.specs.Outcome.{answerNumber}
 use Rattle.rules.specs.Record.{recordSite, recordState}
 use Rattle.rules.specs.Opening.{opening}
@@ -74,7 +74,7 @@ unfoldable pub recordStresses : Record → List CurveValue
 unfolding paired effectiveStress recordSite recordState
 recordStresses r =
     let site = recordSite r in
-    paired (effectiveStress (site .compressibility)) (site .solids) ((recordState r) .water)
+    paired (effectiveStress (skeleton site)) (site .solids) ((recordState r) .water)
 
 unfoldable pub recordBurdens : Record → List ℕ
 unfolding burdens recordSite

@@ -8,7 +8,7 @@ use mathlib.Core.Option.{Option, none, some}
 use Rattle.numbers.specs.Lists.{least, lastOr}
 use Rattle.rules.specs.Quantities.{waterLimits}
 use Rattle.rules.specs.Curve.{Point, point}
-use Rattle.rules.specs.Layer.{Site, State, effectiveStress, burdens}
+use Rattle.rules.specs.Layer.{Site, State, Skeleton, skeleton, effectiveStress, burdens}
 use Rattle.rules.specs.Step.{allOnCurve}
 use Rattle.rules.specs.Load.{firstPoint}
 use Rattle.rules.specs.declared.quantities.CurveValue.{CurveValue}
@@ -25,10 +25,9 @@ atMost (On value) stress = leb value stress
 atMost Off stress = false
 
 -- the least water height on the curve whose effective stress is at most so much
-unfoldable pub restingWater : (compressibility : List Point) (S stress : ℕ) → Option ℕ
+unfoldable pub restingWater : Skeleton → (S stress : ℕ) → Option ℕ
 unfolding least atMost effectiveStress
-restingWater compressibility S stress =
-    least (suc (waterLimits .most)) 0 (λ W. atMost (effectiveStress compressibility S W) stress)
+restingWater soil S stress = least (suc (waterLimits .most)) 0 (λ W. atMost (effectiveStress soil S W) stress)
 
 -- the compressibility curve's last stress
 unfoldable pub lastStress : List Point → ℕ
@@ -48,7 +47,7 @@ restingFrom site load [] Ss = some []
 restingFrom site load (B ∷ Bs) [] = some []
 restingFrom site load (B ∷ Bs) (S ∷ Ss) =
     elim (leb (load + B) (lastStress site.compressibility)) [
-      | true ↦ prepended (restingWater site.compressibility S (load + B)) (restingFrom site load Bs Ss)
+      | true ↦ prepended (restingWater (skeleton site) S (load + B)) (restingFrom site load Bs Ss)
       | false ↦ none
     ]
 
@@ -57,7 +56,7 @@ unfoldable pub startWater : Site → (start : ℕ) (given : List ℕ) (load : �
 unfolding allOnCurve restingFrom burdens
 startWater site start given load =
     elim (eqb start 0) [
-      | true ↦ elim (allOnCurve site.compressibility site.solids (map pos given)) [ true ↦ some given | false ↦ none ]
+      | true ↦ elim (allOnCurve (skeleton site) site.solids (map pos given)) [ true ↦ some given | false ↦ none ]
       | false ↦ restingFrom site load (burdens site.gravity site.solids) site.solids
     ]
 

@@ -8,8 +8,8 @@ use mathlib.Core.Option.{Option}
 use Rattle.numbers.specs.Rounding.{cut}
 use Rattle.numbers.specs.Lists.{all, any, paired, firstOr, lastOr}
 use Rattle.rules.specs.Quantities.{within, stepLimits, clockLimits}
-use Rattle.rules.specs.Curve.{Point, steepness, isOn}
-use Rattle.rules.specs.Layer.{Site, State, Element, elements, effectiveStress}
+use Rattle.rules.specs.Curve.{steepness, isOn}
+use Rattle.rules.specs.Layer.{Site, State, Skeleton, skeleton, Element, elements, effectiveStress}
 use Rattle.rules.specs.Refusals.{_if_, firstCause}
 use Rattle.rules.specs.declared.quantities.Face.{Face}
 use Rattle.rules.specs.declared.quantities.Face.the-variants.{Closed, Drained}
@@ -113,21 +113,21 @@ unfolding any tooLongAt contacts elements stressSlope
 tooLong site s t = any (tooLongAt (stressSlope site) t) (contacts site.top site.bottom (elements site s))
 
 -- a water height is on the curve
-unfoldable pub onCurve : (compressibility : List Point) (S : ℕ) (W : ℤ) → Bool
+unfoldable pub onCurve : Skeleton → (S : ℕ) (W : ℤ) → Bool
 unfolding isOn effectiveStress
-onCurve compressibility S (pos W) = isOn (effectiveStress compressibility S W)
-onCurve compressibility S (negsuc W) = false
+onCurve soil S (pos W) = isOn (effectiveStress soil S W)
+onCurve soil S (negsuc W) = false
 
 -- all water heights are
-unfoldable pub allOnCurve : (compressibility : List Point) (solids : List ℕ) (water : List ℤ) → Bool
+unfoldable pub allOnCurve : Skeleton → (solids : List ℕ) (water : List ℤ) → Bool
 unfolding all paired onCurve
-allOnCurve compressibility solids water = all (λ on. on) (paired (onCurve compressibility) solids water)
+allOnCurve soil solids water = all (λ on. on) (paired (onCurve soil) solids water)
 
 -- a step would take some element off the curve
 unfoldable pub leavesCurve : Site → State → (t : ℕ) → Bool
 unfolding allOnCurve moved upwardFlows elements
 leavesCurve site s t =
-    not (allOnCurve site.compressibility site.solids (moved (upwardFlows site.top site.bottom t (elements site s)) s.water))
+    not (allOnCurve (skeleton site) site.solids (moved (upwardFlows site.top site.bottom t (elements site s)) s.water))
 
 -- why a step is refused, if it is: 13, 14, 15
 unfoldable pub stepRefusal : Site → State → (t : ℕ) → Option Refusal

@@ -7,7 +7,7 @@ use mathlib.Core.List.{List, [], _∷_}
 use mathlib.Core.Path.{_≡_, refl, sym, ap, _∙_}
 use mir.Syntax.{w64}
 use mir.Val.{SFits}
-use Rattle.claims.specs.Fixed.{Fixed, sized-dry, sound-site}
+use Rattle.claims.specs.Fixed.{Fixed, sized-dry, sound-site, is-layer}
 use Rattle.claims.specs.Kept.{SoundSite, Kept}
 use Rattle.laws.specs.SiteFacts.{site-parts}
 use Rattle.lent.specs.CallLaws.{own-front}
@@ -88,6 +88,25 @@ outflows-fit at =
       within-fits {n = mostOutflow} tt (within-le (at .kept .top-bound) (omega arith)),
       within-fits {n = mostOutflow} tt (within-le (at .kept .bottom-bound) (omega arith)),
     )
+
+-- the layer that it has come to
+pub stands : {r : Record} {end budget : ℕ} {water : List ℕ} {progress : Progress} {steps : ℕ} → Reached r end budget water progress steps →
+    isLayer (withParts r water progress) ≡ true
+unfolding recordSite recordState
+stands {r} {water = water} {progress = progress} at =
+    let f = fixed r (at .is) in
+    is-layer (withParts r water progress)
+    (record {
+      header = f .header;
+      sizes = f .sizes;
+      compressibility = f .compressibility;
+      conductivity = f .conductivity;
+      table = f .table;
+      top = f .top;
+      bottom = f .bottom;
+      starting = f .starting;
+    })
+    (at .kept)
 
 module _ (r : Record) (is : isLayer r ≡ true) (whole : length (r .layer .water) ≡ 128) where
   own : r .layer .water ≡ overlaid (firstPlaces (r .layer .frame .elements) (r .layer .water)) (r .layer .water)

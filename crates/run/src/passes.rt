@@ -2,13 +2,18 @@
 ghost use lib.ListN.{length};
 ghost use mathlib.Core.Bool.{true};
 ghost use mathlib.Core.Path.{_≡_};
-ghost use Prim.Native.Nat.{_≤_};
+ghost use Prim.Native.Nat.{_≤_, _<_};
+ghost use Rattle.layer.specs.Segments.{Segments};
+ghost use Rattle.layer.specs.Soil.{excessAt, resistanceAt};
 ghost use Rattle.lent.specs.Burdens.{burdensIn};
-ghost use Rattle.motion.specs.Turning.{Worked};
+ghost use Rattle.motion.specs.Turning.{waterTurned, flowsTurned, Worked};
+ghost use Rattle.numbers.specs.Arrays.{filled};
 ghost use Rattle.rules.specs.Calls.{endedRun};
 ghost use Rattle.rules.specs.Curve.{points};
 ghost use Rattle.rules.specs.Quantities.{clockLimits, budgetLimits};
-ghost use Rattle.rules.specs.Record.{soilOf, layerOf, recordOf, withParts, isLayer};
+ghost use Rattle.rules.specs.Record.{soilOf, layerOf, recordOf, recordSite, withParts, isLayer};
+ghost use Rattle.rules.specs.Run.{longestStep};
+ghost use Rattle.run.specs.Passing.{underTable, found, passedBy};
 ghost use Rattle.rules.specs.declared.record.Record.{Record};
 use lent::state;
 use motion::Turned;
@@ -18,6 +23,100 @@ use rules::quantities::Seconds;
 use rules::record::CurveCounts;
 use rules::record::Frame;
 use rules::record::Progress;
+
+// What a pass gives: its stop with the layer's progress under the table's load, or the progress after its step.
+pub enum Passed {
+    Stops(Stop, Progress),
+    Goes(Progress),
+}
+
+// One pass before the end, on a layer that is lent by its parts with what is worked out once for it: the table's load is set, and the
+// longest step within reach is taken.
+pub fn pass<'a>(
+    counts: CurveCounts,
+    frame: Frame,
+    progress: Progress,
+    void: &'a [u64; 64],
+    stress: &'a [u64; 64],
+    conductivity_void: &'a [u64; 64],
+    conductivity: &'a [u64; 64],
+    solids: &'a [u64; 128],
+    water: &mut [u64; 128],
+    table_time: &'a [u64; 64],
+    table_load: &'a [u64; 64],
+    burden: &'a [u64; 128],
+    sensitivity: &'a [u64; 128],
+    low: &'a [u64; 128],
+    high: &'a [u64; 128],
+    slope: u64,
+    end: u64,
+    stress_segment: &mut [usize; 128],
+    conductivity_segment: &mut [usize; 128],
+    excess: &mut [i64; 128],
+    resistance: &mut [u64; 128],
+    above: &mut [i64; 128],
+) -> Passed
+    ghost { Record }
+    requires { λ r. ⌜ recordOf (soilOf counts (now void) (now stress) (now «conductivity_void») (now conductivity)) (layerOf frame progress (now solids) (now water) (now «table_time») (now «table_load»)) ≡ r ⌝ }
+    requires { λ r. ⌜ isLayer r ≡ true ⌝ }
+    requires { λ r. ⌜ (progress .clock .0 < end) × (end ≤ clockLimits .most) ⌝ }
+    requires { λ _. ⌜ (length (now water) ≡ 128) × (now burden ≡ burdensIn frame (now solids)) ⌝ }
+    requires { λ _. ⌜ Worked (frame .elements) (points (counts .compressibility) (now void) (now stress)) (now solids) (now sensitivity) (now low) (now high) slope ⌝ }
+    requires { λ _. ⌜ (length (now excess) ≡ 128) × (length (now resistance) ≡ 128) × (length (now above) ≡ 128) × (length (now «stress_segment») ≡ 128) × (length (now «conductivity_segment») ≡ 128) ⌝ }
+    ensures { λ r p. ⌜ p ≡ passedBy r (found r end) ⌝ }
+    ensures { λ r _. ⌜ now (water .exit) ≡ waterTurned (recordSite r) (underTable r) (found r end) (now (water .entry)) ⌝ }
+    ensures { λ r _. ⌜ now (above .exit) ≡ flowsTurned (recordSite r) (underTable r) (frame .elements) (longestStep (recordSite r) end (underTable r)) (now (above .entry)) ⌝ }
+    ensures { λ r _. ⌜ (now (excess .exit) ≡ filled (now (excess .entry)) (frame .elements) (excessAt (points (counts .compressibility) (now (void .entry)) (now (stress .entry))) ((underTable r) .load) (now (burden .entry)) (now (solids .entry)) (now (water .entry)))) × (now (resistance .exit) ≡ filled (now (resistance .entry)) (frame .elements) (resistanceAt (points (counts .conductivity) (now («conductivity_void» .entry)) (now (conductivity .entry))) (now (solids .entry)) (now (water .entry)))) ⌝ }
+    ensures { λ _ _. ⌜ Segments (frame .elements) (counts .compressibility) (now («stress_segment» .entry)) (now («stress_segment» .exit)) ⌝ }
+    ensures { λ _ _. ⌜ Segments (frame .elements) (counts .conductivity) (now («conductivity_segment» .entry)) (now («conductivity_segment» .exit)) ⌝ }
+{
+    let top = frame.top;
+    let bottom = frame.bottom;
+    let clock = progress.clock.0;
+    let load = table::load_at(frame.table_points, table_time, table_load, clock);
+    let under = state::loaded(progress, load);
+    let next = table::next_time(frame.table_points, table_time, clock, end);
+    let most = numbers::lesser(Seconds::MOST, numbers::lesser(end, next) - clock);
+    match motion::turn(
+        frame.elements,
+        top,
+        bottom,
+        load,
+        most,
+        slope,
+        burden,
+        solids,
+        sensitivity,
+        low,
+        high,
+        counts.compressibility,
+        void,
+        stress,
+        counts.conductivity,
+        conductivity_void,
+        conductivity,
+        stress_segment,
+        conductivity_segment,
+        excess,
+        resistance,
+        above,
+        water,
+    ) {
+        Turned::Stopped(found) => Passed::Stops(found, under),
+        Turned::Stepped(t, first, last) => Passed::Goes(state::later(under, t, first, last)),
+    }
+}
+
+// What a run ends with.
+pub fn ended(stop: Stop, steps: u64, progress: Progress) -> Ended
+    ensures { λ e. ⌜ e ≡ record { stop = stop; steps = steps; progress = progress } ⌝ }
+{
+    Ended {
+        stop,
+        steps,
+        progress,
+    }
+}
 
 // A run within its limits, on a layer that is lent by its parts with what is worked out once for it; the water is left as the run
 // leaves it.
@@ -49,8 +148,6 @@ pub fn passes<'a>(
     requires { λ _. ⌜ Worked (frame .elements) (points (counts .compressibility) (now void) (now stress)) (now solids) (now sensitivity) (now low) (now high) slope ⌝ }
     ensures { λ r e. ⌜ endedRun r end budget ≡ record { stop = e .stop; steps = e .steps; after = withParts r (now (water .exit)) (e .progress) } ⌝ }
 {
-    let top = frame.top;
-    let bottom = frame.bottom;
     let mut stress_segment = [0usize; 128];
     let mut conductivity_segment = [0usize; 128];
     let mut excess = [0i64; 128];
@@ -58,53 +155,38 @@ pub fn passes<'a>(
     let mut above = [0i64; 128];
     let mut now = progress;
     let mut steps: u64 = 0;
-    let stop = loop {
-        let clock = now.clock.0;
-        if clock == end {
-            break Stop::AtEnd;
-        }
+    while now.clock.0 != end {
         if steps == budget {
-            break Stop::BudgetUsed;
+            return ended(Stop::BudgetUsed, steps, now);
         }
-        let load = table::load_at(frame.table_points, table_time, table_load, clock);
-        now = state::loaded(now, load);
-        let next = table::next_time(frame.table_points, table_time, clock, end);
-        let most = numbers::lesser(Seconds::MOST, numbers::lesser(end, next) - clock);
-        match motion::turn(
-            frame.elements,
-            top,
-            bottom,
-            load,
-            most,
-            slope,
-            burden,
+        match pass(
+            counts,
+            frame,
+            now,
+            void,
+            stress,
+            conductivity_void,
+            conductivity,
             solids,
+            water,
+            table_time,
+            table_load,
+            burden,
             sensitivity,
             low,
             high,
-            counts.compressibility,
-            void,
-            stress,
-            counts.conductivity,
-            conductivity_void,
-            conductivity,
+            slope,
+            end,
             &mut stress_segment,
             &mut conductivity_segment,
             &mut excess,
             &mut resistance,
             &mut above,
-            water,
         ) {
-            Turned::Stopped(found) => break found,
-            Turned::Stepped(t, first, last) => {
-                now = state::later(now, t, first, last);
-                steps += 1;
-            }
+            Passed::Stops(stop, under) => return ended(stop, steps, under),
+            Passed::Goes(after) => now = after,
         }
-    };
-    Ended {
-        stop,
-        steps,
-        progress: now,
+        steps += 1;
     }
+    ended(Stop::AtEnd, steps, now)
 }

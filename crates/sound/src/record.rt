@@ -2,11 +2,12 @@
 ghost use mathlib.Core.Bool.{true};
 ghost use mathlib.Core.Path.{_≡_};
 ghost use Prim.Native.Nat.{_≤_};
+ghost use Rattle.rules.specs.Curve.{points, compressibilitySound, conductivitySound};
 ghost use Rattle.rules.specs.Layer.{topPressure, bottomPressure};
 ghost use Rattle.rules.specs.Record.{headerSound, faceNumber, faceHolds, siteSound, stateSound, isLayer};
 ghost use mathlib.Core.Bool.{_&&_};
 ghost use Rattle.laws.specs.Amid.{Between};
-ghost use Rattle.rules.specs.Quantities.{levelLimits};
+ghost use Rattle.rules.specs.Quantities.{levelLimits, curveLimits};
 ghost use lib.IntN.{pos};
 use holdings::balance;
 use holdings::faces;
@@ -39,6 +40,24 @@ pub fn numbers_sound(counts: CurveCounts, frame: Frame) -> bool
     )
 }
 
+// The causes 6 and 7, of a soil's two curves.
+pub fn curves_sound<'a>(
+    counts: CurveCounts,
+    void: &'a [u64; 64],
+    stress: &'a [u64; 64],
+    conductivity_void: &'a [u64; 64],
+    conductivity: &'a [u64; 64],
+) -> bool
+    requires { ⌜ counts .compressibility ≤ curveLimits .most ⌝ }
+    requires { ⌜ (curveLimits .least ≤ counts .conductivity) × (counts .conductivity ≤ curveLimits .most) ⌝ }
+    ensures { λ r. ⌜ r ≡ (compressibilitySound (points (counts .compressibility) (now (void .entry)) (now (stress .entry))) && conductivitySound (points (counts .conductivity) (now («conductivity_void» .entry)) (now (conductivity .entry))) (points (counts .compressibility) (now (void .entry)) (now (stress .entry)))) ⌝ }
+{
+    let m = counts.compressibility;
+    let k = counts.conductivity;
+    checks::compressibility_sound(m, void, stress)
+        && checks::conductivity_sound(k, conductivity_void, conductivity, m, void, stress)
+}
+
 // Whether the faces hold 0 and P.
 pub fn faces_sound(frame: Frame) -> bool
     requires { ⌜ Between (pos 0) (pos (levelLimits .most)) (frame .«top_level» .0) × Between (pos 0) (pos (levelLimits .most)) (frame .«bottom_level» .0) ⌝ }
@@ -59,8 +78,6 @@ pub fn site_sound(r: Record) -> bool
     let frame = r.layer.frame;
     let counts = r.soil.counts;
     let n = frame.elements;
-    let m = counts.compressibility;
-    let k = counts.conductivity;
     let bottom = frame.bottom;
     let top_level = frame.top_level;
     let bottom_level = frame.bottom_level;
@@ -77,20 +94,12 @@ pub fn site_sound(r: Record) -> bool
     ) {
         return false;
     }
-    if !checks::compressibility_sound(
-        m,
+    if !curves_sound(
+        counts,
         &r.soil.compressibility_void,
         &r.soil.compressibility_stress,
-    ) {
-        return false;
-    }
-    if !checks::conductivity_sound(
-        k,
         &r.soil.conductivity_void,
         &r.soil.conductivity,
-        m,
-        &r.soil.compressibility_void,
-        &r.soil.compressibility_stress,
     ) {
         return false;
     }

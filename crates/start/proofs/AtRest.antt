@@ -1,5 +1,5 @@
 -- Where the water of an element rests: only between the bounds of the curve, and with one height all above it that are on the curve.
-use Prim.Native.Nat.{ℕ, _-_, _≤_, _<_}
+use Prim.Native.Nat.{ℕ, suc, _-_, _≤_, _<_}
 use native.Mathlib.Nat.{le-refl}
 use native.Mathlib.Omega.{arith}
 use lib.Dec.{T, leb, leb→le}
@@ -12,7 +12,8 @@ use Rattle.laws.specs.Bounds.{lowestWater, highestWater, highest-water, water-b
 use Rattle.laws.specs.Index.{points-length}
 use Rattle.numbers.specs.Searches.{failed, both, least-found, least-none}
 use Rattle.rules.specs.Curve.{Point, points, compressibilitySound}
-use Rattle.rules.specs.Layer.{effectiveStress}
+use Rattle.rules.specs.Layer.{skeletonOf, effectiveStress}
+use Rattle.rules.specs.Quantities.{waterLimits}
 use Rattle.rules.specs.Start.{atMost, restingWater}
 use Rattle.rules.proofs.Resting.{at-most-parts, at-most-mono}
 use Rattle.rules.proofs.Sound.{falls-down}
@@ -20,7 +21,7 @@ use Rattle.start.proofs.Ends.{first-void, last-void}
 
 -- an element with some water is on the curve, with an effective stress of at most so much
 abbrev pub restsAt : (curve : List Point) (S most W : ℕ) → Bool
-restsAt curve S most W = atMost (effectiveStress curve S W) most
+restsAt curve S most W = atMost (effectiveStress (skeletonOf curve) S W) most
 
 module _ (m : ℕ) (void stress : List ℕ) (two : 2 ≤ m) (sound : compressibilitySound (points m void stress) ≡ true) (S : ℕ) (solid : 0 < S)
     (most : ℕ) where
@@ -36,7 +37,7 @@ module _ (m : ℕ) (void stress : List ℕ) (two : 2 ≤ m) (sound : compressibi
   -- what rests lies between the bounds of the curve
   pub rests-between : (W : ℕ) → T (restsAt curve S most W) → (lowest ≤ W) × (W ≤ highest)
   rests-between W t =
-      let on = at-most-parts (effectiveStress curve S W) most t .0 in
+      let on = at-most-parts (effectiveStress (skeletonOf curve) S W) most t .0 in
       let bounds = water-bounds curve (falls-down m void stress sound) (rw (points-length m void stress) two) S solid W in
       let (low, high) = both (leb lowest W) (leb W highest) (rw (bounds, last-void m void stress (omega arith), first-void m void stress (omega arith)) at on) in
       (leb→le lowest W low, leb→le W highest high)
@@ -49,14 +50,14 @@ module _ (m : ℕ) (void stress : List ℕ) (two : 2 ≤ m) (sound : compressibi
       (at-most-mono curve (falls-down m void stress sound) S solid most U W k (rw (first-void m void stress (omega arith)) on) t)
 
   -- the height that rests while none below it does
-  pub rests-least : (W : ℕ) → W ≤ 1_000_000_000 → T (restsAt curve S most W) → ((U : ℕ) → U < W → T (restsAt curve S most U) → ⊥) →
-      restingWater curve S most ≡ some W
+  pub rests-least : (W : ℕ) → W ≤ waterLimits .most → T (restsAt curve S most W) → ((U : ℕ) → U < W → T (restsAt curve S most U) → ⊥) →
+      restingWater (skeletonOf curve) S most ≡ some W
   unfolding restingWater
-  rests-least W h t below = least-found (restsAt curve S most) 1_000_000_001 0 W t below (omega arith) (omega arith)
+  rests-least W h t below = least-found (restsAt curve S most) (suc (waterLimits .most)) 0 W t below (omega arith) (omega arith)
 
   -- no height rests where the highest does not
-  pub rests-nowhere : restsAt curve S most highest ≡ false → restingWater curve S most ≡ none
+  pub rests-nowhere : restsAt curve S most highest ≡ false → restingWater (skeletonOf curve) S most ≡ none
   unfolding restingWater
   rests-nowhere fails =
-      least-none (restsAt curve S most) 1_000_000_001 0
+      least-none (restsAt curve S most) (suc (waterLimits .most)) 0
       (λ U t. none-below highest (le-refl highest) fails U (rests-between U t .1) t)

@@ -12,14 +12,14 @@ use Rattle.laws.specs.Every.{Every}
 use Rattle.numbers.specs.Arrays.{tabulate}
 use Rattle.numbers.specs.Lists.{least}
 use Rattle.rules.specs.Curve.{Point}
-use Rattle.rules.specs.Layer.{Site, effectiveStress}
+use Rattle.rules.specs.Layer.{Site, skeleton, skeletonOf, effectiveStress}
 use Rattle.rules.specs.Quantities.{waterLimits}
 use Rattle.rules.specs.Start.{atMost, restingWater, lastStress, prepended, restingFrom}
 use Rattle.start.specs.Rest.{restingUnder, restingHeights}
 
 module _ (curve : List Point) (load B S : ℕ) where
   -- load + B not above the last stress, and above it
-  pub under-last : load + B ≤ lastStress curve → restingUnder curve load B S ≡ restingWater curve S (load + B)
+  pub under-last : load + B ≤ lastStress curve → restingUnder curve load B S ≡ restingWater (skeletonOf curve) S (load + B)
   unfolding restingUnder
   under-last h = rw (le-leb (load + B) (lastStress curve) h, restingUnder)
 
@@ -35,8 +35,8 @@ from-step site load B S Bs Ss = go (leb (load + B) (lastStress site.compressibil
   where
     go : (c : Bool) →
         _≡_ {A = Option (List ℕ)}
-        (elim c [ true ↦ prepended (restingWater site.compressibility S (load + B)) (restingFrom site load Bs Ss) | false ↦ none ])
-        (prepended (elim c as (λ _. Option ℕ) [ true ↦ restingWater site.compressibility S (load + B) | false ↦ none ]) (restingFrom site load Bs Ss))
+        (elim c [ true ↦ prepended (restingWater (skeleton site) S (load + B)) (restingFrom site load Bs Ss) | false ↦ none ])
+        (prepended (elim c as (λ _. Option ℕ) [ true ↦ restingWater (skeleton site) S (load + B) | false ↦ none ]) (restingFrom site load Bs Ss))
     go true = refl
     go false = refl
 
@@ -116,8 +116,8 @@ module _ (curve : List Point) (load : ℕ) where
   unfolding restingUnder restingWater
   under-most B S W e = go (leb (load + B) (lastStress curve)) e
     where
-      go : (under : Bool) → elim under as (λ _. Option ℕ) [ true ↦ restingWater curve S (load + B) | false ↦ none ] ≡ some W → W ≤ waterLimits .most
-      go true e = omega (arith, least-below (λ U. atMost (effectiveStress curve S U) (load + B)) 1_000_000_001 0 W e)
+      go : (under : Bool) → elim under as (λ _. Option ℕ) [ true ↦ restingWater (skeletonOf curve) S (load + B) | false ↦ none ] ≡ some W → W ≤ waterLimits .most
+      go true e = omega (arith, least-below (λ U. atMost (effectiveStress (skeletonOf curve) S U) (load + B)) (suc (waterLimits .most)) 0 W e)
       go false e = absurd (Option·none-ne-some W e)
 
   -- each keeps the greatest height

@@ -10,7 +10,7 @@ use mathlib.Core.Path.{_≡_, refl, sym, ap, _∙_}
 use Rattle.laws.specs.Lengths.{burdens-length}
 use Rattle.numbers.specs.Arrays.{firstPlaces, overlaid}
 use Rattle.numbers.specs.Filled.{length-tabulate, tabulated}
-use Rattle.rules.specs.Layer.{Site, burdens}
+use Rattle.rules.specs.Layer.{Site, skeleton, burdens}
 use Rattle.rules.specs.Start.{restingFrom, startWater}
 use Rattle.rules.specs.Step.{allOnCurve}
 use Rattle.start.specs.Rest.{restingHeights, allOrNone}
@@ -27,9 +27,9 @@ burdens-in g n solids burden same =
 module _ (site : Site) (start : ℕ) (given : List ℕ) (load : ℕ) where
   -- start 0: as given, where all of it is on the curve
   pub given-start : eqb start 0 ≡ true →
-      startWater site start given load ≡ allOrNone (allOnCurve site.compressibility site.solids (map pos given)) given
+      startWater site start given load ≡ allOrNone (allOnCurve (skeleton site) site.solids (map pos given)) given
   unfolding startWater allOrNone
-  given-start e = rw (e, startWater) (go (allOnCurve site.compressibility site.solids (map pos given)))
+  given-start e = rw (e, startWater) (go (allOnCurve (skeleton site) site.solids (map pos given)))
     where
       go : (on : Bool) → _≡_ {A = Option (List ℕ)} (elim on [ true ↦ some given | false ↦ none ]) (allOrNone on given)
       go true = refl

@@ -6,6 +6,7 @@ use mathlib.Core.List.{List, [], _∷_}
 use mathlib.Core.Option.{Option, none, some}
 use Rattle.rules.specs.Curve.{Point}
 use Rattle.rules.specs.Start.{restingWater, lastStress}
+use Rattle.rules.specs.Layer.{skeletonOf}
 use Rattle.start.specs.declared.Resting.{Resting}
 use Rattle.start.specs.declared.Resting.the-variants.{At, Nowhere}
 
@@ -19,7 +20,7 @@ restingAnswer none = Nowhere
 unfoldable pub restingUnder : (compressibility : List Point) (load B S : ℕ) → Option ℕ
 unfolding lastStress
 restingUnder compressibility load B S =
-    elim (leb (load + B) (lastStress compressibility)) [ true ↦ restingWater compressibility S (load + B) | false ↦ none ]
+    elim (leb (load + B) (lastStress compressibility)) [ true ↦ restingWater (skeletonOf compressibility) S (load + B) | false ↦ none ]
 
 -- the resting water of the elements from the lowest up, as far as they have some
 unfoldable pub restingHeights : (compressibility : List Point) (load : ℕ) (Bs Ss : List ℕ) → List ℕ

@@ -5,11 +5,11 @@ ghost use mathlib.Core.Bool.{true};
 ghost use mathlib.Core.List.{map};
 ghost use mathlib.Core.Path.{_≡_};
 ghost use Prim.Native.Nat.{ℕ, _≤_, _<_};
-ghost use Rattle.element.specs.Elements.{mostBurden};
+ghost use Rattle.laws.specs.Most.{mostBurden};
 ghost use Rattle.numbers.specs.Arrays.{firstPlaces, overlaid};
 ghost use Rattle.rules.specs.Curve.{points, isOn, compressibilitySound};
-ghost use Rattle.rules.specs.Layer.{Site, effectiveStress};
-ghost use Rattle.rules.specs.Quantities.{stressLimits, solidsLimits, waterLimits};
+ghost use Rattle.rules.specs.Layer.{Site, skeletonOf, effectiveStress};
+ghost use Rattle.rules.specs.Quantities.{stressLimits, solidsLimits, waterLimits, elementLimits, curveLimits};
 ghost use Rattle.rules.specs.Start.{atMost, restingWater, restingFrom};
 ghost use Rattle.rules.specs.Step.{allOnCurve};
 ghost use Rattle.start.specs.Rest.{restingAnswer, restingUnder, restingHeights, allOrNone};
@@ -22,24 +22,6 @@ pub enum Resting {
     Nowhere,
 }
 
-// Whether an element is on a sound compressibility curve.
-pub fn on_curve<'a>(
-    solids: u64,
-    water: u64,
-    m: usize,
-    void: &'a [u64; 64],
-    stress: &'a [u64; 64],
-) -> bool
-    requires { ⌜ (0 < solids) × (water ≤ waterLimits .most) ⌝ }
-    requires { ⌜ (2 ≤ m) × (m ≤ 64) ⌝ }
-    requires { ⌜ compressibilitySound (points m (now void) (now stress)) ≡ true ⌝ }
-    ensures { λ r. ⌜ r ≡ isOn (effectiveStress (points m (now (void .entry)) (now (stress .entry))) solids water) ⌝ }
-{
-    let found = element::effective_stress(solids, water, m, void, stress, 0);
-    let value = found.value;
-    reading::is_on(value)
-}
-
 // Whether every element is on a sound compressibility curve.
 pub fn all_on_curve<'a>(
     n: usize,
@@ -49,17 +31,21 @@ pub fn all_on_curve<'a>(
     void: &'a [u64; 64],
     stress: &'a [u64; 64],
 ) -> bool
-    requires { ⌜ n ≤ 128 ⌝ }
+    requires { ⌜ n ≤ elementLimits .most ⌝ }
     requires { ⌜ ((j : ℕ) → j < n → (0 < getD (now solids) j 0) × (getD (now water) j 0 ≤ waterLimits .most)) ⌝ }
-    requires { ⌜ (2 ≤ m) × (m ≤ 64) ⌝ }
+    requires { ⌜ (curveLimits .least ≤ m) × (m ≤ curveLimits .most) ⌝ }
     requires { ⌜ compressibilitySound (points m (now void) (now stress)) ≡ true ⌝ }
-    ensures { λ r. ⌜ r ≡ allOnCurve (points m (now (void .entry)) (now (stress .entry))) (firstPlaces n (now (solids .entry))) (map pos (firstPlaces n (now (water .entry)))) ⌝ }
+    ensures { λ r. ⌜ r ≡ allOnCurve (skeletonOf (points m (now (void .entry)) (now (stress .entry)))) (firstPlaces n (now (solids .entry))) (map pos (firstPlaces n (now (water .entry)))) ⌝ }
 {
+    let mut hint: usize = 0;
     let mut j: usize = 0;
     while j < n {
-        if !on_curve(solids[j], water[j], m, void, stress) {
+        let found = element::effective_stress(solids[j], water[j], m, void, stress, hint);
+        let value = found.value;
+        if !reading::is_on(value) {
             return false;
         }
+        hint = found.segment;
         j += 1;
     }
     true
@@ -75,9 +61,9 @@ pub fn rests<'a>(
     stress: &'a [u64; 64],
 ) -> bool
     requires { ⌜ (0 < solids) × (water ≤ waterLimits .most) ⌝ }
-    requires { ⌜ (2 ≤ m) × (m ≤ 64) ⌝ }
+    requires { ⌜ (curveLimits .least ≤ m) × (m ≤ curveLimits .most) ⌝ }
     requires { ⌜ compressibilitySound (points m (now void) (now stress)) ≡ true ⌝ }
-    ensures { λ r. ⌜ r ≡ atMost (effectiveStress (points m (now (void .entry)) (now (stress .entry))) solids water) most ⌝ }
+    ensures { λ r. ⌜ r ≡ atMost (effectiveStress (skeletonOf (points m (now (void .entry)) (now (stress .entry)))) solids water) most ⌝ }
 {
     let found = element::effective_stress(solids, water, m, void, stress, 0);
     let value = found.value;
@@ -96,9 +82,9 @@ pub fn resting_water<'a>(
     stress: &'a [u64; 64],
 ) -> Resting
     requires { ⌜ (0 < solids) × (solids ≤ solidsLimits .most) ⌝ }
-    requires { ⌜ (2 ≤ m) × (m ≤ 64) ⌝ }
+    requires { ⌜ (curveLimits .least ≤ m) × (m ≤ curveLimits .most) ⌝ }
     requires { ⌜ compressibilitySound (points m (now void) (now stress)) ≡ true ⌝ }
-    ensures { λ r. ⌜ r ≡ restingAnswer (restingWater (points m (now (void .entry)) (now (stress .entry))) solids most) ⌝ }
+    ensures { λ r. ⌜ r ≡ restingAnswer (restingWater (skeletonOf (points m (now (void .entry)) (now (stress .entry)))) solids most) ⌝ }
 {
     let mut high = water::highest_water(solids, void[0]);
     if !rests(solids, high, most, m, void, stress) {
@@ -127,7 +113,7 @@ pub fn resting_under<'a>(
 ) -> Resting
     requires { ⌜ (load ≤ stressLimits .most) × (burden ≤ mostBurden) ⌝ }
     requires { ⌜ (0 < solids) × (solids ≤ solidsLimits .most) ⌝ }
-    requires { ⌜ (2 ≤ m) × (m ≤ 64) ⌝ }
+    requires { ⌜ (curveLimits .least ≤ m) × (m ≤ curveLimits .most) ⌝ }
     requires { ⌜ compressibilitySound (points m (now void) (now stress)) ≡ true ⌝ }
     ensures { λ r. ⌜ r ≡ restingAnswer (restingUnder (points m (now (void .entry)) (now (stress .entry))) load burden solids) ⌝ }
 {
@@ -149,11 +135,11 @@ pub fn resting_waters<'a>(
     stress: &'a [u64; 64],
     water: &mut [u64; 128],
 ) -> bool
-    requires { ⌜ n ≤ 128 ⌝ }
+    requires { ⌜ n ≤ elementLimits .most ⌝ }
     requires { ⌜ load ≤ stressLimits .most ⌝ }
     requires { ⌜ ((j : ℕ) → j < n → getD (now burden) j 0 ≤ mostBurden) ⌝ }
     requires { ⌜ ((j : ℕ) → j < n → (0 < getD (now solids) j 0) × (getD (now solids) j 0 ≤ solidsLimits .most)) ⌝ }
-    requires { ⌜ (2 ≤ m) × (m ≤ 64) ⌝ }
+    requires { ⌜ (curveLimits .least ≤ m) × (m ≤ curveLimits .most) ⌝ }
     requires { ⌜ compressibilitySound (points m (now void) (now stress)) ≡ true ⌝ }
     requires { ⌜ length (now water) ≡ 128 ⌝ }
     ensures { λ r. ⌜ ((site : Site) → site .compressibility ≡ points m (now (void .entry)) (now (stress .entry)) → restingFrom site load (firstPlaces n (now (burden .entry))) (firstPlaces n (now (solids .entry))) ≡ allOrNone r (firstPlaces n (now (water .exit)))) ⌝ }

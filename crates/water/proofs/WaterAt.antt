@@ -6,7 +6,7 @@ use lib.ListN.{getD}
 use lib.Signed.{_≤ℤ_}
 use mathlib.Core.List.{List, _∷_}
 use mathlib.Core.Path.{_≡_, refl}
-use Rattle.element.specs.Elements.{mostFlow}
+use Rattle.laws.specs.Most.{mostFlow}
 use Rattle.water.specs.Water.{Movable}
 use Rattle.numbers.specs.Interval.{Within}
 use Rattle.numbers.specs.Signed.{signed}

@@ -6,7 +6,7 @@ use lib.Signed.{leZ}
 use mathlib.Core.Bool.{Bool, _&&_}
 use mathlib.Core.List.{List, _∷_}
 use Rattle.numbers.specs.Interval.{Within}
-use Rattle.element.specs.Elements.{mostFlow}
+use Rattle.laws.specs.Most.{mostFlow}
 use Rattle.rules.specs.Quantities.{waterLimits}
 use Rattle.rules.specs.Step.{newHeight}
 

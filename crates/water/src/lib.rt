@@ -4,7 +4,7 @@ ghost use lib.ListN.{length, getD};
 ghost use lib.Signed.{_≤ℤ_};
 ghost use mathlib.Core.Path.{_≡_};
 ghost use Prim.Native.Nat.{ℕ, _+_, _≤_, _<_};
-ghost use Rattle.element.specs.Elements.{mostFlow};
+ghost use Rattle.laws.specs.Most.{mostFlow};
 ghost use Rattle.water.specs.Water.{newWater, heightAfter, between, staysAt, Movable};
 ghost use Rattle.numbers.specs.Arrays.{filled, everyIndex};
 ghost use Rattle.numbers.specs.Interval.{Within};

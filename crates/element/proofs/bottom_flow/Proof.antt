@@ -4,7 +4,8 @@ use lib.IntN.{ℤ, pos, negℤ, _-ℤ_}
 use mathlib.Core.Path.{_≡_}
 use mir.Syntax.{w64}
 use mir.Val.{SFits}
-use Rattle.element.specs.Elements.{mostFlow, elementOf}
+use Rattle.element.specs.Elements.{elementOf}
+use Rattle.laws.specs.Most.{mostFlow}
 use Rattle.element.proofs.FlowsAt.{outward-range}
 use Rattle.numbers.specs.Interval.{Within, within-le, within-pos, within-sub, within-fits}
 use Rattle.numbers.specs.Signed.{signed, sub-parts, up-neg, down-neg, readBack}

@@ -5,7 +5,7 @@ use lib.IntN.{pos, _+ℤ_, _-ℤ_}
 use mathlib.Core.Path.{_≡_}
 use mir.Syntax.{w64}
 use mir.Val.{SFits, toZ}
-use Rattle.element.specs.Elements.{mostBurden}
+use Rattle.laws.specs.Most.{mostBurden}
 use Rattle.numbers.specs.Interval.{Within, within-add, within-sub, within-le, within-pos, within-fits}
 use Rattle.numbers.specs.Signed.{readBack, readUnsigned}
 use Rattle.rules.specs.Quantities.{stressLimits}

@@ -5,7 +5,7 @@ use lib.IntN.{pos, _*ℤ_}
 use mathlib.Core.Path.{_≡_}
 use mir.Syntax.{w64}
 use mir.Val.{SFits, toZ}
-use Rattle.element.specs.Elements.{mostFlow}
+use Rattle.laws.specs.Most.{mostFlow}
 use Rattle.numbers.specs.Interval.{Within, within-mul, within-quot, within-le, within-pos, within-fits}
 use Rattle.numbers.specs.Rounding.{cut}
 use Rattle.numbers.specs.Signed.{signed, readBack, readUnsigned}

@@ -3,7 +3,7 @@ use borrow.Author.Needs.{needs}
 use lib.IntN.{ℤ, _-ℤ_}
 use mir.Syntax.{w64}
 use mir.Val.{SFits}
-use Rattle.element.specs.Elements.{mostDifference}
+use Rattle.laws.specs.Most.{mostDifference}
 use Rattle.laws.specs.Spread.{Holds}
 use Rattle.numbers.specs.Interval.{Within, within-sub, within-le, within-fits}
 use Rattle.numbers.specs.Signed.{readBack}

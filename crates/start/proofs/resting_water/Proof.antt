@@ -7,6 +7,7 @@ use mathlib.Core.Bool.{Bool, false}
 use mathlib.Core.Path.{_≡_, sym, ap, _∙_}
 use Rattle.numbers.specs.Searches.{passed}
 use Rattle.rules.specs.Curve.{points}
+use Rattle.rules.specs.Quantities.{waterLimits}
 use Rattle.rules.proofs.Sound.{Compressible, compressible}
 use Rattle.start.specs.Rest.{restingAnswer}
 use Rattle.start.proofs.AtRest.{restsAt, rests-between, none-below, rests-least, rests-nowhere}
@@ -41,7 +42,7 @@ module _ (l : tie.At-loop Inv-loop μ-loop) where
   abbrev middle : ℕ
   middle = low + (high - low) / 2
 
-  high-most : high ≤ 1_000_000_000
+  high-most : high ≤ waterLimits .most
   high-most = omega (arith, l .loop .inv .1, l .before .before .before .before .before .highest-water .ensures .1)
 
   -- no height up to a middle that does not rest does

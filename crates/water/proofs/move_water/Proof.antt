@@ -11,7 +11,7 @@ use mir.Syntax.{w64}
 use mir.Val.{SFits, ofZ, toZ}
 use Rattle.water.specs.Water.{newWater, heightAfter, Movable}
 use Rattle.water.proofs.WaterAt.{entering, new-height}
-use Rattle.element.specs.Elements.{mostFlow}
+use Rattle.laws.specs.Most.{mostFlow}
 use Rattle.numbers.specs.Arrays.{filled}
 use Rattle.numbers.specs.Filled.{filled-zero, filled-store, filled-done, getD-filled-past}
 use Rattle.numbers.specs.Interval.{Within, within-fits}

@@ -11,7 +11,7 @@ use mir.Syntax.{w64}
 use mir.Val.{SFits, ofZ, toZ}
 use Rattle.water.specs.Water.{between, staysAt, Movable}
 use Rattle.water.proofs.WaterAt.{entering}
-use Rattle.element.specs.Elements.{mostFlow}
+use Rattle.laws.specs.Most.{mostFlow}
 use Rattle.numbers.specs.Arrays.{everyIndex}
 use Rattle.numbers.specs.Indices.{restPasses, all-rest, index-fails, index-goes, index-ends}
 use Rattle.numbers.specs.Interval.{Within, within-fits}

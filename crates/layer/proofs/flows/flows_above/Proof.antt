@@ -7,7 +7,8 @@ use lib.ListN.{getD, set}
 use mathlib.Core.Path.{_≡_, sym, _∙_}
 use mir.Syntax.{w64}
 use mir.Val.{SFits, ofZ, toZ}
-use Rattle.element.specs.Elements.{mostDifference, mostFaceResistance, Readable, flowAbove}
+use Rattle.element.specs.Elements.{Readable, flowAbove}
+use Rattle.laws.specs.Most.{mostDifference, mostFaceResistance}
 use Rattle.element.proofs.FlowsAt.{outward-same, flow-inner, flow-top}
 use Rattle.numbers.specs.Arrays.{filled}
 use Rattle.numbers.specs.Filled.{filled-zero, filled-store}

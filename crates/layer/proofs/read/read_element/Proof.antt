@@ -6,7 +6,7 @@ use Rattle.numbers.specs.Interval.{Within, intervals}
 use Rattle.numbers.specs.Signed.{one-sided}
 use Rattle.rules.specs.Quantities.{stressLimits, waterLimits, pressure}
 use Rattle.rules.specs.Curve.{points, curveAt, valueOf}
-use Rattle.rules.specs.Layer.{effectiveStress, hydraulicConductivity, excessPressure, resistance}
+use Rattle.rules.specs.Layer.{skeletonOf, effectiveStress, hydraulicConductivity, excessPressure, resistance}
 use Rattle.curves.proofs.SmoothCurves.{conductivity-smooth}
 use Rattle.layer.specs.Soil.{Soil, OnSoil}
 use Rattle.layer.proofs.ReadAt.{water-most, stress-most, conductivity-range}
@@ -42,7 +42,7 @@ value-of-requires c κs = search needs
 
 -- the values read
 stress-is : (c : tie.After-value-of) → let s = c .before .before .before .before in
-    c .value-of .result ≡ valueOf (effectiveStress (points (s .args .m) (s .args .void .now) (s .args .stress .now)) (s .args .solids) (s .args .water))
+    c .value-of .result ≡ valueOf (effectiveStress (skeletonOf (points (s .args .m) (s .args .void .now) (s .args .stress .now))) (s .args .solids) (s .args .water))
 stress-is c = c .value-of .ensures ∙ ap valueOf (c .before .before .before .effective-stress .ensures .0)
 
 excess-pressure-requires : tie.Need-excess-pressure-requires

@@ -2,14 +2,14 @@ use Prim.Native.Nat.{ℕ, _≤_}
 use lib.IntN.{ℤ}
 use mathlib.Core.List.{List}
 use mathlib.Core.Path.{_≡_, ap, _∙_}
-use Rattle.element.specs.Elements.{mostExcess}
+use Rattle.laws.specs.Most.{mostExcess}
 use Rattle.layer.specs.Soil.{OnSoil}
 use Rattle.numbers.specs.Interval.{Within, intervals}
 use Rattle.numbers.specs.Signed.{one-sided}
 use Rattle.result.specs.Elements.{mostPore, element-stored}
 use Rattle.result.specs.Ranges.{water-most, stress-most, excess-within, node-low, pore-within}
 use Rattle.rules.specs.Curve.{Point, points, valueOf}
-use Rattle.rules.specs.Layer.{effectiveStress, excessUnder, excessPressure}
+use Rattle.rules.specs.Layer.{skeletonOf, effectiveStress, excessUnder, excessPressure}
 use Rattle.rules.specs.Quantities.{levelLimits, stressLimits, waterLimits}
 use Rattle.rules.specs.Result.{nodeHeight, poreOver, porePressure}
 use Rattle.rules.specs.declared.quantities.Pressure.{Pressure}
@@ -31,7 +31,7 @@ module _ (s : tie.Start) where
   node = nodeHeight (s .args .below) (s .args .solids) (s .args .water)
 
   abbrev excess : ℤ
-  excess = excessPressure curve (s .args .load .0) (s .args .burden) (s .args .solids) (s .args .water)
+  excess = excessPressure (skeletonOf curve) (s .args .load .0) (s .args .burden) (s .args .solids) (s .args .water)
 
   most : s .args .water ≤ waterLimits .most
   most = water-most _ _ _ (s .pre .1 .1 .1 .0) _ _ _ _ on
@@ -57,7 +57,7 @@ module _ (c : tie.After-value-of) where
   abbrev at-stress : tie.Start
   at-stress = c .before .before .before
 
-  stress-is : c .value-of .result ≡ valueOf (effectiveStress (curve at-stress) (at-stress .args .solids) (at-stress .args .water))
+  stress-is : c .value-of .result ≡ valueOf (effectiveStress (skeletonOf (curve at-stress)) (at-stress .args .solids) (at-stress .args .water))
   stress-is = c .value-of .ensures ∙ ap valueOf (c .before .effective-stress .ensures .0)
 
   effective-most : c .value-of .result ≤ stressLimits .most
@@ -96,7 +96,7 @@ module _ (c : tie.After-pore-pressure) where
       ap (poreOver (excess s) (level s)) (c .before .node-height .ensures)
 
   pore-is : c .pore-pressure .result .0 ≡
-      porePressure (curve s) (level s) (s .args .load .0) (s .args .below) (s .args .burden) (s .args .solids) (s .args .water)
+      porePressure (skeletonOf (curve s)) (level s) (s .args .load .0) (s .args .below) (s .args .burden) (s .args .solids) (s .args .water)
   unfolding porePressure
   pore-is = pore-over
 

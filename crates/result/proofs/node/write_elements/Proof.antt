@@ -10,13 +10,14 @@ use Rattle.result.specs.Ranges.{water-most}
 use Rattle.rules.specs.Curve.{points}
 use Rattle.rules.specs.Quantities.{solidsLimits, waterLimits}
 use Rattle.rules.specs.Result.{elementsBytes}
+use Rattle.rules.specs.Layer.{skeletonOf}
 use native.Mathlib.Omega.{arith}
 use Rattle.result.proofs.node.write_elements.Statement.{statement}
 use Rattle.result.proofs.node.write_elements.Tie as tie
 
 abbrev Inv-loop : tie.InvT-loop
 Inv-loop n load top-level burden solids water m void stress out₀ below₀ j₀ out below j =
-    (j ≤ n) × (out ≡ sets out₀ 56 (elementsBytes (points m void stress) (top-level .0) (load .0) 0 (firstPlaces j burden) (firstPlaces j solids) (firstPlaces j water))) ×
+    (j ≤ n) × (out ≡ sets out₀ 56 (elementsBytes (skeletonOf (points m void stress)) (top-level .0) (load .0) 0 (firstPlaces j burden) (firstPlaces j solids) (firstPlaces j water))) ×
     (below ≡ heightOf (firstPlaces j solids) (firstPlaces j water)) × (below ≤ (solidsLimits .most + waterLimits .most) * j)
 
 abbrev μ-loop : tie.MeasureT-loop

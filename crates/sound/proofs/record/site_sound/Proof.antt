@@ -1,7 +1,7 @@
 use borrow.Author.Needs.{needs}
 use borrow.Author.Tests.{not-true, not-false}
 use mathlib.Core.Bool.{Bool, true, _&&_}
-use mathlib.Core.Path.{_≡_, refl, sym, _∙_}
+use mathlib.Core.Path.{_≡_, refl, sym, ap, _∙_}
 use Rattle.laws.specs.SiteFacts.{site-by}
 use Rattle.laws.specs.Sizes.{SoundSizes, sound-sizes}
 use Rattle.laws.specs.SoundHeader.{SoundHeader, sound-header}
@@ -9,7 +9,6 @@ use Rattle.rules.specs.Curve.{compressibilitySound, conductivitySound}
 use Rattle.rules.specs.Layer.{topPressure, bottomPressure}
 use Rattle.rules.specs.Load.{tableSound}
 use Rattle.rules.specs.Record.{headerSound, faceNumber, sizesSound, faceHolds, recordSite, recordState, siteSound}
-use Rattle.rules.specs.declared.record.Frame.{Frame}
 use Rattle.rules.specs.declared.record.Record.{Record}
 use Rattle.sound.proofs.record.site_sound.Statement.{statement}
 use Rattle.sound.proofs.record.site_sound.Tie as tie
@@ -72,96 +71,71 @@ module _ (c : tie.Else2) where
   unfolding recordSite recordState
   sizes = let l = r₁ e₂ .layer in sound-sizes (recordSite (r₁ e₂)) (l .frame .elements) (l .solids) (l .water) refl sizes-true
 
-compressibility-sound-requires : tie.Need-compressibility-sound-requires
-compressibility-sound-requires c κs = kept (e₂ (c .before .before .before)) .compressibility-kept .most
+curves-sound-requires : tie.Need-curves-sound-requires
+curves-sound-requires c κs =
+    let k = kept (e₂ (c .before .before .before .before .before)) in
+    (k .compressibility-kept .most, (k .conductivity-kept .least, k .conductivity-kept .most))
 
-module _ (c : tie.After-compressibility-sound) where
+-- both curves of a record
+abbrev curved : Record → Bool
+curved r = let site = recordSite r in compressibilitySound (site .compressibility) && conductivitySound (site .conductivity) (site .compressibility)
+
+module _ (c : tie.After-curves-sound) where
   abbrev e₃ : tie.Else2
-  e₃ = c .before .before .before .before
+  e₃ = c .before .before .before .before .before .before
 
   abbrev r₃ : Record
   r₃ = r₁ (e₂ e₃)
 
-  compressibility-is : c .compressibility-sound .result ≡ compressibilitySound ((recordSite r₃) .compressibility)
+  curves-are : c .curves-sound .result ≡ curved r₃
   unfolding recordSite
-  compressibility-is = c .compressibility-sound .ensures
+  curves-are = c .curves-sound .ensures
+
+  -- the site by its curves, its table and its faces, all before them being sound
+  by-curves : {curves table top bottom : Bool} → curved r₃ ≡ curves → tableSound ((recordSite r₃) .loadTable) ≡ table →
+      faceHolds (r₃ .layer .frame .top) topPressure ≡ top →
+      faceHolds (r₃ .layer .frame .bottom) (bottomPressure ((recordSite r₃) .topLevel) ((recordSite r₃) .bottomLevel)) ≡ bottom →
+      siteSound r₃ ≡ (curves && table && top && bottom)
+  by-curves {table = table} {top = top} {bottom = bottom} k t p q =
+      site-by r₃ (header-true (e₂ e₃)) (sizes-true e₃) refl refl t p q ∙ ap (λ (b : Bool). b && table && top && bottom) k
 
 returns-3 : tie.Need-returns-3
-returns-3 c =
-    let f = c .before in
-    sym (site-by (r₃ f) (header-true (e₂ (e₃ f))) (sizes-true (e₃ f)) (sym (compressibility-is f) ∙ not-true _ (c .if3 .taken)) refl refl refl refl)
+returns-3 c = let f = c .before in sym (by-curves f (sym (curves-are f) ∙ not-true _ (c .if3 .taken)) refl refl refl)
 
 module _ (c : tie.Else3) where
-  abbrev f₃ : tie.After-compressibility-sound
+  abbrev f₃ : tie.After-curves-sound
   f₃ = c .before
 
-  compressibility-true : compressibilitySound ((recordSite (r₃ f₃)) .compressibility) ≡ true
-  compressibility-true = sym (compressibility-is f₃) ∙ not-false _ (c .if3 .left)
+  curves-true : curved (r₃ f₃) ≡ true
+  curves-true = sym (curves-are f₃) ∙ not-false _ (c .if3 .left)
 
-conductivity-sound-requires : tie.Need-conductivity-sound-requires
-conductivity-sound-requires c κs =
-    let k = kept (e₂ (e₃ (f₃ (c .before .before .before .before .before)))) in
-    ((k .conductivity-kept .least, k .conductivity-kept .most), k .compressibility-kept .most)
+table-sound-requires : tie.Need-table-sound-requires
+table-sound-requires c κs = kept (e₂ (e₃ (f₃ (c .before .before .before)))) .table-kept .most
 
-module _ (c : tie.After-conductivity-sound) where
+module _ (c : tie.After-table-sound) where
   abbrev e₄ : tie.Else3
-  e₄ = c .before .before .before .before .before .before
+  e₄ = c .before .before .before .before
 
   abbrev r₄ : Record
   r₄ = r₃ (f₃ e₄)
 
-  conductivity-is : c .conductivity-sound .result ≡ conductivitySound ((recordSite r₄) .conductivity) ((recordSite r₄) .compressibility)
+  table-is : c .table-sound .result ≡ tableSound ((recordSite r₄) .loadTable)
   unfolding recordSite
-  conductivity-is = c .conductivity-sound .ensures
+  table-is = c .table-sound .ensures
 
 returns-4 : tie.Need-returns-4
 returns-4 c =
     let f = c .before in
-    let z = f₃ (e₄ f) in
-    sym (site-by (r₄ f) (header-true (e₂ (e₃ z))) (sizes-true (e₃ z)) (compressibility-true (e₄ f)) (sym (conductivity-is f) ∙ not-true _ (c .if4 .taken)) refl refl refl)
-
-module _ (c : tie.Else4) where
-  abbrev f₄ : tie.After-conductivity-sound
-  f₄ = c .before
-
-  conductivity-true : conductivitySound ((recordSite (r₄ f₄)) .conductivity) ((recordSite (r₄ f₄)) .compressibility) ≡ true
-  conductivity-true = sym (conductivity-is f₄) ∙ not-false _ (c .if4 .left)
-
-table-sound-requires : tie.Need-table-sound-requires
-table-sound-requires c κs = kept (e₂ (e₃ (f₃ (e₄ (f₄ (c .before .before .before)))))) .table-kept .most
-
-module _ (c : tie.After-table-sound) where
-  abbrev e₅ : tie.Else4
-  e₅ = c .before .before .before .before
-
-  abbrev r₅ : Record
-  r₅ = r₄ (f₄ e₅)
-
-  table-is : c .table-sound .result ≡ tableSound ((recordSite r₅) .loadTable)
-  unfolding recordSite
-  table-is = c .table-sound .ensures
-
-  -- the site by its table and its faces, all before them being sound
-  by-table : {table top bottom : Bool} → tableSound ((recordSite r₅) .loadTable) ≡ table → faceHolds (r₅ .layer .frame .top) topPressure ≡ top →
-      faceHolds (r₅ .layer .frame .bottom) (bottomPressure ((recordSite r₅) .topLevel) ((recordSite r₅) .bottomLevel)) ≡ bottom →
-      siteSound r₅ ≡ (table && top && bottom)
-  by-table t p q =
-      let y = f₄ e₅ in
-      let z = f₃ (e₄ y) in
-      site-by r₅ (header-true (e₂ (e₃ z))) (sizes-true (e₃ z)) (compressibility-true (e₄ y)) (conductivity-true e₅) t p q
-
-returns-5 : tie.Need-returns-5
-returns-5 c = let f = c .before in sym (by-table f (sym (table-is f) ∙ not-true _ (c .if5 .taken)) refl refl)
+    sym (by-curves (f₃ (e₄ f)) (curves-true (e₄ f)) (sym (table-is f) ∙ not-true _ (c .if4 .taken)) refl refl)
 
 faces-sound-requires : tie.Need-faces-sound-requires
-faces-sound-requires c κs =
-    let z = sizes (e₃ (f₃ (e₄ (f₄ (e₅ (c .before)))))) in (z .top-level, z .bottom-level)
+faces-sound-requires c κs = let z = sizes (e₃ (f₃ (e₄ (c .before)))) in (z .top-level, z .bottom-level)
 
-returns-6 : tie.Need-returns-6
+returns-5 : tie.Need-returns-5
 unfolding recordSite
-returns-6 c =
+returns-5 c =
     let f = c .before .before in
-    c .faces-sound .ensures ∙ sym (by-table f (sym (table-is f) ∙ not-false _ (c .before .if5 .left)) refl refl)
+    c .faces-sound .ensures ∙ sym (by-curves (f₃ (e₄ f)) (curves-true (e₄ f)) (sym (table-is f) ∙ not-false _ (c .before .if4 .left)) refl refl)
 
 pub site-sound-spec : {M : Type 1} → statement M
 site-sound-spec =
@@ -171,11 +145,9 @@ site-sound-spec =
     returns
     sizes-sound-requires
     returns-2
-    compressibility-sound-requires
+    curves-sound-requires
     returns-3
-    conductivity-sound-requires
-    returns-4
     table-sound-requires
-    returns-5
+    returns-4
     faces-sound-requires
-    returns-6)
+    returns-5)

@@ -19,6 +19,7 @@ use Rattle.rules.specs.Record.{recordSite, recordState, outflowSound, stateSoun
 use Rattle.rules.specs.Step.{allOnCurve}
 use Rattle.rules.specs.declared.quantities.Clock.{Clock}
 use Rattle.rules.specs.declared.record.Record.{Record}
+use Rattle.rules.specs.Layer.{skeleton}
 use Rattle.sound.proofs.record.state_sound.Statement.{statement}
 use Rattle.sound.proofs.record.state_sound.Tie as tie
 
@@ -33,7 +34,7 @@ module _ (c : tie.After-all-on-curve) where
   facts : SiteFacts r
   facts = site-facts r (start .pre)
 
-  on-is : c .all-on-curve .result ≡ allOnCurve ((recordSite r) .compressibility) ((recordSite r) .solids) (map pos ((recordState r) .water))
+  on-is : c .all-on-curve .result ≡ allOnCurve (skeleton (recordSite r)) ((recordSite r) .solids) (map pos ((recordState r) .water))
   unfolding recordSite recordState
   on-is = c .all-on-curve .ensures
 
@@ -61,7 +62,7 @@ module _ (c : tie.After-is-stress) where
   abbrev r₁ : Record
   r₁ = r f₁
 
-  on-true : allOnCurve ((recordSite r₁) .compressibility) ((recordSite r₁) .solids) (map pos ((recordState r₁) .water)) ≡ true
+  on-true : allOnCurve (skeleton (recordSite r₁)) ((recordSite r₁) .solids) (map pos ((recordState r₁) .water)) ≡ true
   on-true = sym (on-is f₁) ∙ not-false _ (c .before .if1 .left)
 
   load-is : c .is-stress .result ≡ withinℤ stressLimits ((recordState r₁) .load)
