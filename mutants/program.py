@@ -72,7 +72,8 @@ def fault_of_run(loader: Sequence[str], program: str, crate: str, seconds: int =
             wrote.seek(0)
             said.seek(0)
             if ended.returncode != 0:
-                return f"the program ended with status {ended.returncode}: {said.read().decode('utf-8', 'replace')}"
+                spoken = said.read().decode("utf-8", "replace").strip()
+                return f"the program ended with status {ended.returncode}: {spoken}"
             one, other = wrote.read(), stored(crate, "stdout")
     if one == other:
         return ""
@@ -92,7 +93,7 @@ def fault_of_test(root: str, words: Sequence[str], program: str) -> str:
         )
     except subprocess.TimeoutExpired:
         return f"{words[0]} did not end"
-    return "" if ended.returncode == 0 else f"{words[0]}: {ended.stdout.decode('utf-8', 'replace')}"
+    return "" if ended.returncode == 0 else f"{words[0]}: {ended.stdout.decode('utf-8', 'replace').strip()}"
 
 
 def judged(kit: Kit, crate: str, folder: str, incremental: str) -> Verdict:

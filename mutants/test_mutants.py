@@ -308,7 +308,7 @@ class Programs(unittest.TestCase):
                 file.write('#!/bin/sh\necho "$1 $2"\n[ "$2" = right ]\n')
             os.chmod(path, 0o755)
             self.assertEqual("", program.fault_of_test(folder, ["test", "of"], "right"))
-            self.assertEqual("test: of wrong\n", program.fault_of_test(folder, ["test", "of"], "wrong"))
+            self.assertEqual("test: of wrong", program.fault_of_test(folder, ["test", "of"], "wrong"))
 
     def test_every_program_has_the_test_of_the_gate(self) -> None:
         names = catalogue.crate_names(ROOT)
