@@ -24,7 +24,7 @@ use Rattle.numbers.specs.Arrays.{firstPlaces, overlaid}
 use Rattle.numbers.specs.Filled.{length-overlaid, length-filled, overlaid-overlaid, first-length}
 use Rattle.numbers.specs.Lists.{firstOr, lastOr}
 use Rattle.numbers.specs.Searches.{by-test, is-true}
-use Rattle.rules.specs.Calls.{endedRun}
+use Rattle.rules.specs.Calls.{Ending, endedRun}
 use Rattle.rules.specs.Curve.{Point}
 use Rattle.rules.specs.Layer.{Site, State, skeletonOf, elements}
 use Rattle.rules.specs.Load.{loadAt, nextTime, withLoad}
@@ -32,6 +32,7 @@ use Rattle.rules.specs.Quantities.{elementLimits, pressure}
 use Rattle.rules.specs.Record.{recordSite, stateOf, recordState, progressOf, withParts}
 use Rattle.rules.specs.Run.{loadSet, stepTaken, afterEvent, longestReach, longestStep, Turn, stops, goes, turn}
 use Rattle.rules.specs.Step.{upwardFlows, tooLong, stepped}
+use Rattle.rules.specs.declared.answers.Ended.{Ended}
 use Rattle.rules.specs.declared.answers.Stop.{Stop}
 use Rattle.rules.specs.declared.answers.Stop.the-variants.{AtEnd, BudgetUsed}
 use Rattle.rules.specs.declared.quantities.Pressure.{Pressure}
@@ -51,6 +52,10 @@ next-reaches (a ∷ rest) now otherwise h =
     let ih = next-reaches rest now otherwise h in
     by-test (ltb now a.abscissa) (λ b. now ≤ elim b as (λ _. ℕ) [ true ↦ a.abscissa | false ↦ nextTime rest now otherwise ])
     (λ t. let l = ltb→lt now a.abscissa t in omega arith) (λ _. ih)
+
+-- a run ends with what is told of it
+abbrev pub ending : Record → (water : List ℕ) → Ended → Ending
+ending r water e = record { stop = e .stop; steps = e .steps; after = withParts r water (e .progress) }
 
 -- the flows of a pass fill the same array
 pub flows-long : (site : Site) (s : State) (n longest : ℕ) (above : List ℤ) → n ≤ elementLimits .most → length above ≡ 128 → length (flowsTurned site s n longest above) ≡ 128

@@ -16,6 +16,7 @@ use rules::answers::Answer;
 use rules::answers::Answered;
 use rules::answers::Ended;
 use rules::answers::Refusal;
+use rules::answers::Stop;
 use rules::quantities::Budget;
 use rules::quantities::Clock;
 use rules::quantities::TestedClock;
@@ -26,7 +27,8 @@ use rules::record::Record;
 
 pub mod passes;
 
-// A run within its limits, on a layer that is lent by its parts with its burdens; the water is left as the run leaves it.
+// A run within its limits, on a layer that is lent by its parts with its burdens; the water is left as the run leaves it. What a run
+// works out once is worked out only where it takes a pass.
 pub fn run_lent<'a>(
     counts: CurveCounts,
     frame: Frame,
@@ -50,6 +52,12 @@ pub fn run_lent<'a>(
     requires { λ _. ⌜ (length (now water) ≡ 128) × (now burden ≡ burdensIn frame (now solids)) ⌝ }
     ensures { λ r e. ⌜ endedRun r end budget ≡ record { stop = e .stop; steps = e .steps; after = withParts r (now (water .exit)) (e .progress) } ⌝ }
 {
+    if progress.clock.0 == end {
+        return passes::ended(Stop::AtEnd, 0, progress);
+    }
+    if budget == 0 {
+        return passes::ended(Stop::BudgetUsed, 0, progress);
+    }
     let mut sensitivity = [0u64; 128];
     let mut low = [0u64; 128];
     let mut high = [0u64; 128];

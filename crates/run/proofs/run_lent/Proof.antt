@@ -1,12 +1,17 @@
 use denote.Ref.{now}
+use native.Mathlib.Omega.{arith}
 use borrow.Author.Needs.{needs}
+use borrow.Author.Tests.{eq-eqb, ne-eqb}
 use mathlib.Core.Bool.{true}
-use mathlib.Core.Path.{_≡_, refl}
+use mathlib.Core.Path.{_≡_, refl, sym, ap, _∙_}
 use Rattle.lent.specs.Standing.{counted, solid, soil}
 use Rattle.lent.specs.StepLaws.{worked-as}
 use Rattle.numbers.specs.Arrays.{zeros}
 use Rattle.rules.specs.Record.{soilOf, layerOf, recordOf, isLayer}
 use Rattle.rules.specs.declared.record.Record.{Record}
+use Rattle.run.proofs.Pass as law
+use Rattle.run.proofs.Pass.{ending}
+use Rattle.run.proofs.Reached.{Reached, begins}
 use Rattle.run.proofs.run_lent.Statement.{statement}
 use Rattle.run.proofs.run_lent.Tie as tie
 
@@ -20,9 +25,30 @@ module _ (c : tie.Start) where
   is : isLayer r ≡ true
   is = c .pre .0
 
+  -- no pass is taken yet
+  begun : Reached r (c .args .end) (c .args .budget) (now (c .args .water)) (c .args .progress) 0
+  begun = begins r is (c .pre .1 .1 .0) (c .pre .1 .0 .1) (c .pre .1 .0 .0)
+
+ended-requires : tie.Need-ended-requires
+ended-requires c κs = search needs
+
+returns : tie.Need-returns
+returns c =
+    let s = c .before .before .before in
+    law.at-end (begun s) (eq-eqb _ _ (c .before .if1 .taken)) ∙ ap (ending (r s) (now (s .args .water))) (sym (c .ended .ensures))
+
+ended-requires-2 : tie.Need-ended-requires-2
+ended-requires-2 c κs = search needs
+
+returns-2 : tie.Need-returns-2
+returns-2 c =
+    let s = c .before .before .before .before in
+    law.budget-used (begun s) (ne-eqb _ _ (c .before .before .if1 .left)) (omega (arith, c .before .if2 .taken)) ∙
+    ap (ending (r s) (now (s .args .water))) (sym (c .ended2 .ensures))
+
 prepare-requires : tie.Need-prepare-requires
 prepare-requires c κs =
-    let s = c .before .before .before in
+    let s = c .before .before .before .before .before .before in
     let curves = soil (r s) (is s) in
     (counted (r s) (is s) .1, (solid (r s) (is s), ((curves .compressibility-few, curves .compressibility-many, curves .compressibility-sound), (refl, refl, refl))))
 
@@ -30,12 +56,12 @@ passes-requires : tie.Need-passes-requires
 unfolding zeros
 passes-requires c κs =
     let f = c .before .before .before .before in
-    let s = f .before .before .before .before in
+    let s = f .before .before .before .before .before .before .before in
     let gave = f .prepare .ensures in
     (is s, (s .pre .1 .0, (s .pre .1 .1, worked-as (r s) (is s) (gave .1 .0) (gave .1 .1 .0) (gave .1 .1 .1) (gave .0))))
 
-returns : tie.Need-returns
-returns c = search needs
+returns-3 : tie.Need-returns-3
+returns-3 c = search needs
 
 pub run-lent-spec : {M : Type 1} → statement M
-run-lent-spec = tie.close (tie.spec prepare-requires passes-requires returns)
+run-lent-spec = tie.close (tie.spec ended-requires returns ended-requires-2 returns-2 prepare-requires passes-requires returns-3)

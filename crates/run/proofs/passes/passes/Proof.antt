@@ -23,7 +23,7 @@ use Rattle.rules.specs.declared.record.Progress.{Progress}
 use Rattle.rules.specs.declared.record.Record.{Record}
 use Rattle.run.specs.Passing.{underTable, found}
 use Rattle.run.proofs.Pass as law
-use Rattle.run.proofs.Pass.{flows-long}
+use Rattle.run.proofs.Pass.{ending, flows-long}
 use Rattle.run.proofs.Reached.{Reached, begins, stands}
 use Rattle.run.proofs.passes.passes.Statement.{statement}
 use Rattle.run.proofs.passes.passes.Tie as tie
@@ -72,10 +72,6 @@ module _ (c : tie.At-loop Inv-loop μ-loop) where
 
   abbrev at : Reached (r start) (end start) (budget start) (c .loop .water) (c .loop .now) steps
   at = c .loop .inv .0
-
--- a run ends with what is told of it
-abbrev ending : Record → (water : List ℕ) → Ended → Ending
-ending r water e = record { stop = e .stop; steps = e .steps; after = withParts r water (e .progress) }
 
 ended-requires : tie.Need-ended-requires Inv-loop μ-loop
 ended-requires c κs = search needs
