@@ -15,9 +15,11 @@ ghost use Rattle.rules.specs.Quantities.{stressLimits, conductivityLimits, soli
 use curves::reading;
 use curves::reading::Found;
 use rules::quantities::Face;
-use rules::quantities::Head;
 use rules::quantities::Pressure;
 use rules::quantities::Void;
+
+// A metre in nanometres.
+const METRE: u64 = 1_000_000_000;
 
 // E, from solids and water within their limits.
 pub fn void_ratio(solids: u64, water: u64) -> u64
@@ -50,7 +52,7 @@ pub fn buoyant_weight(gravity: u64, solids: u64) -> u64
     requires { ⌜ solids ≤ solidsLimits .most ⌝ }
     ensures { λ r. ⌜ (r ≡ buoyantWeight gravity solids) × (r ≤ mostWeight) ⌝ }
 {
-    numbers::floor(solids * (gravity - 1_000) * 9_810, Head::METRE)
+    numbers::floor(solids * (gravity - 1_000) * 9_810, METRE)
 }
 
 // r, from an element's height and conductivity.

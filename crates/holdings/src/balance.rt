@@ -2,14 +2,12 @@
 ghost use lib.IntN.{pos, _+ℤ_, _-ℤ_};
 ghost use lib.ListN.{getD};
 ghost use mathlib.Core.Path.{_≡_};
-ghost use Prim.Native.Nat.{ℕ, _*_, _≤_, _<_};
+ghost use Prim.Native.Nat.{ℕ, _≤_, _<_};
 ghost use Rattle.numbers.specs.Arrays.{firstPlaces};
 ghost use Rattle.numbers.specs.Integers.{eqℤ};
 ghost use Rattle.numbers.specs.Interval.{Within};
 ghost use Rattle.numbers.specs.Sums.{sum};
-ghost use Rattle.rules.specs.Quantities.{clockLimits, waterLimits, elementLimits, startingWaterLimits, mostOutflow};
-ghost use Rattle.rules.specs.Record.{outflowSound};
-use rules::quantities::Clock;
+ghost use Rattle.rules.specs.Quantities.{waterLimits, elementLimits, startingWaterLimits, mostOutflow};
 use rules::quantities::Outflow;
 
 // All water of the first n elements.
@@ -25,15 +23,6 @@ pub fn total_water(n: usize, water: &[u64; 128]) -> u64
         j += 1;
     }
     total
-}
-
-// Whether an outflow keeps its bound at a clock within its limits.
-pub fn outflow_sound(outflow: Outflow, clock: Clock) -> bool
-    requires { ⌜ clock .0 ≤ clockLimits .most ⌝ }
-    ensures { λ r. ⌜ r ≡ outflowSound (outflow .0) (clock .0) ⌝ }
-{
-    let most = (Outflow::RATE * clock.0) as i64;
-    0 - most <= outflow.0 && outflow.0 <= most
 }
 
 // The water that is gone: the settlement, where solids stay.

@@ -1,6 +1,8 @@
 ghost use mathlib.Core.Path.{_≡_};
+ghost use Prim.Native.Nat.{_≤_};
 ghost use Rattle.numbers.specs.Interval.{Within};
 ghost use Rattle.rules.specs.Quantities.{within, withinℤ, stressLimits, voidLimits, conductivityLimits, levelLimits, clockLimits, solidsLimits, waterLimits, stepLimits, budgetLimits, gravityLimits, elementLimits, curveLimits, tableLimits, flagLimits, startingWaterLimits, limitsOf, pressureOf, from_to_};
+ghost use Rattle.rules.specs.Record.{outflowSound};
 ghost use Rattle.rules.specs.Tested.{testedHead, testedPressure, testedVoid, testedClock};
 
 // Whether a number keeps limits.
@@ -29,9 +31,6 @@ pub enum TestedHead {
 }
 
 impl Head {
-    // A metre.
-    pub const METRE: u64 = 1_000_000_000;
-
     pub const LEAST: u64 = 0;
 
     pub const MOST: u64 = 200_000_000_000;
@@ -343,6 +342,15 @@ pub struct Outflow(pub i64);
 impl Outflow {
     // The most, in size, for each second of the clock.
     pub const RATE: u64 = 2_300_000_000;
+
+    // Whether an outflow keeps its bound at a clock within its limits.
+    pub fn is_sound(self, clock: Clock) -> bool
+        requires { ⌜ clock .0 ≤ clockLimits .most ⌝ }
+        ensures { λ r. ⌜ r ≡ outflowSound (self .0) (clock .0) ⌝ }
+    {
+        let most = (Outflow::RATE * clock.0) as i64;
+        0 - most <= self.0 && self.0 <= most
+    }
 }
 
 // The kinds of quantity that arrays hold. A field that must be 0 is a kind of its own.

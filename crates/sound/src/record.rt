@@ -142,7 +142,7 @@ pub fn state_sound(r: Record) -> bool
     if !StartingWater::holds(starting) {
         return false;
     }
-    if !(balance::outflow_sound(top, now) & balance::outflow_sound(bottom, now)) {
+    if !(top.is_sound(now) & bottom.is_sound(now)) {
         return false;
     }
     balance::balances(

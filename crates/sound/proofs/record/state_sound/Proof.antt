@@ -140,13 +140,13 @@ returns-4 c =
     let g = f₄ f in
     sym (state-by (r₄ f) (on-true (f₂ (f₃ g))) (load-true (f₃ g)) (clock-true g) (sym (starting-is f) ∙ not-true _ (c .if3 .taken)) refl refl refl)
 
-outflow-sound-requires : tie.Need-outflow-sound-requires
-outflow-sound-requires c κs = let g = f₄ (c .before) in rw (now-is g) (clock-most g)
+is-sound-requires : tie.Need-is-sound-requires
+is-sound-requires c κs = let g = f₄ (c .before) in rw (now-is g) (clock-most g)
 
-outflow-sound-requires-2 : tie.Need-outflow-sound-requires-2
-outflow-sound-requires-2 c κs = let g = f₄ (c .before .before) in rw (now-is g) (clock-most g)
+is-sound-requires-2 : tie.Need-is-sound-requires-2
+is-sound-requires-2 c κs = let g = f₄ (c .before .before) in rw (now-is g) (clock-most g)
 
-module _ (c : tie.After-outflow-sound2) where
+module _ (c : tie.After-is-sound2) where
   abbrev f₅ : tie.After-holds
   f₅ = c .before .before .before
 
@@ -156,13 +156,13 @@ module _ (c : tie.After-outflow-sound2) where
   starting-true : within startingWaterLimits (r₅ .layer .frame .«starting_water») ≡ true
   starting-true = sym (starting-is f₅) ∙ not-false _ (c .before .before .if3 .left)
 
-  top-is : c .before .outflow-sound .result ≡ outflowSound ((recordState r₅) .topOutflow) ((recordState r₅) .clock)
+  top-is : c .before .is-sound .result ≡ outflowSound ((recordState r₅) .topOutflow) ((recordState r₅) .clock)
   unfolding recordState
-  top-is = rw (now-is (f₄ f₅)) at (c .before .outflow-sound .ensures)
+  top-is = rw (now-is (f₄ f₅)) at (c .before .is-sound .ensures)
 
-  bottom-is : c .outflow-sound2 .result ≡ outflowSound ((recordState r₅) .bottomOutflow) ((recordState r₅) .clock)
+  bottom-is : c .is-sound2 .result ≡ outflowSound ((recordState r₅) .bottomOutflow) ((recordState r₅) .clock)
   unfolding recordState
-  bottom-is = rw (now-is (f₄ f₅)) at (c .outflow-sound2 .ensures)
+  bottom-is = rw (now-is (f₄ f₅)) at (c .is-sound2 .ensures)
 
   abbrev balance : (left : ℕ) → Bool
   balance left = let p = r₅ .layer .progress in eqℤ (pos (r₅ .layer .frame .«starting_water»)) (pos left +ℤ p .«top_outflow» .0 +ℤ p .«bottom_outflow» .0)
@@ -180,13 +180,13 @@ module _ (c : tie.After-outflow-sound2) where
 returns-5 : tie.Need-returns-5
 returns-5 c =
     let f = c .before in
-    let a = f .before .outflow-sound .result in
-    let b = f .outflow-sound2 .result in
+    let a = f .before .is-sound .result in
+    let b = f .is-sound2 .result in
     let fails : (a && b) ≡ false = not-true (a && b) (c .if4 .taken) in
     sym (by-outflows f (sym (top-is f)) (sym (bottom-is f)) ∙ ap (λ (x : Bool). x && balanced f) fails)
 
 module _ (c : tie.Else4) where
-  abbrev f₆ : tie.After-outflow-sound2
+  abbrev f₆ : tie.After-is-sound2
   f₆ = c .before
 
   abbrev r₆ : Record
@@ -194,8 +194,8 @@ module _ (c : tie.Else4) where
 
   sounds : (outflowSound ((recordState r₆) .topOutflow) ((recordState r₆) .clock) ≡ true) × (outflowSound ((recordState r₆) .bottomOutflow) ((recordState r₆) .clock) ≡ true)
   sounds =
-      let a = c .before .before .outflow-sound .result in
-      let b = c .before .outflow-sound2 .result in
+      let a = c .before .before .is-sound .result in
+      let b = c .before .is-sound2 .result in
       let (top, bottom) = both a b (passed (not-false (a && b) (c .if4 .left))) in
       (sym (top-is f₆) ∙ is-true a top, sym (bottom-is f₆) ∙ is-true b bottom)
 
@@ -234,8 +234,8 @@ state-sound-spec =
     returns-3
     holds-requires
     returns-4
-    outflow-sound-requires
-    outflow-sound-requires-2
+    is-sound-requires
+    is-sound-requires-2
     returns-5
     total-water-requires
     balances-requires

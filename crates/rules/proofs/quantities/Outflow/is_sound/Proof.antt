@@ -10,11 +10,11 @@ use mir.Val.{SFits, toZ}
 use Rattle.numbers.specs.Interval.{intervals, within-sub, within-le, within-pos, within-fits}
 use Rattle.numbers.specs.Searches.{both, joined, same-test}
 use Rattle.numbers.specs.Signed.{readBack, readUnsigned, one-sided, sub-parts, natAbs-parts}
 use Rattle.rules.specs.Quantities.{outflowRate, mostOutflow}
 use Rattle.rules.specs.Record.{outflowSound}
 use borrow.Author.Needs.{needs}
-use Rattle.holdings.proofs.balance.outflow_sound.Statement.{statement}
-use Rattle.holdings.proofs.balance.outflow_sound.Tie as tie
+use Rattle.rules.proofs.quantities.Outflow.is_sound.Statement.{statement}
+use Rattle.rules.proofs.quantities.Outflow.is_sound.Tie as tie
 
 -- a number is at most so large in size just where it lies between two
 between : (z : ℤ) (most : ℕ) → (leZ (pos 0 -ℤ pos most) z && leZ z (pos most)) ≡ leb (natAbs z) most
@@ -42,7 +42,7 @@ module _ (c : tie.Start) where
   least-fits = within-fits {n = mostOutflow} tt (within-le (within-sub (within-pos 0) (within-pos most)) (omega arith))
 
 -- the outflow is read from its bits
-outflow-fits : (c : tie.After-struct-told) → SFits w64 (c .before .before .before .args .outflow .0)
+outflow-fits : (c : tie.After-struct-told) → SFits w64 (c .before .before .before .args .self .0)
 outflow-fits c = record { sfits = c .struct-told .given .0 .1 }
 
 mul-most : tie.Need-mul-most
@@ -59,7 +59,7 @@ unfolding outflowSound
 returns c =
     let t = c .before .before .before in
     let s = t .before .before .before in
-    let z = s .args .outflow .0 in
+    let z = s .args .self .0 in
     let reaches = simp (most-is s, readBack (least-fits s), readBack {z = z} (outflow-fits t)) at (c .before .before .if1 .taken) in
     simp (most-is s, readBack {z = z} (outflow-fits t)) (ap (λ (x : Bool). x && leZ z (pos (most s))) (sym reaches) ∙ between z (most s))
 
@@ -68,10 +68,10 @@ unfolding outflowSound
 returns-2 c =
     let t = c .before in
     let s = t .before .before .before in
-    let z = s .args .outflow .0 in
+    let z = s .args .self .0 in
     let below = simp (most-is s, readBack (least-fits s), readBack {z = z} (outflow-fits t)) at (c .if1 .left) in
     simp (most-is s, readBack (least-fits s), readBack {z = z} (outflow-fits t))
     (below ∙ ap (λ (x : Bool). x && leZ z (pos (most s))) (sym below) ∙ between z (most s))
 
-pub outflow-sound-spec : {M : Type 1} → statement M
-outflow-sound-spec = tie.close (tie.spec mul-most cast-most sub-if1 returns returns-2)
+pub is-sound-spec : {M : Type 1} → statement M
+is-sound-spec = tie.close (tie.spec mul-most cast-most sub-if1 returns returns-2)
