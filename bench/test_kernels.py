@@ -18,7 +18,8 @@ HERE = os.path.dirname(os.path.abspath(__file__))
 sys.path.insert(0, os.path.join(os.path.dirname(HERE), "reference"))
 
 import make_scenarios  # noqa: E402
-import reference as ref  # noqa: E402
+import makers  # noqa: E402
+import rules  # noqa: E402
 
 KERNELS = ("plain", "tuned")
 SOURCES = KERNELS + ("job", "key")
@@ -54,7 +55,7 @@ def filler(room):
 def reference_answer(job, room):
     """The reference's refusal number, and its buffer of so many bytes after the key."""
     buffer = bytearray(filler(room))
-    return ref.key_into(job, buffer), bytes(buffer)
+    return rules.key_into(job, buffer), bytes(buffer)
 
 
 def kernel_answer(library, name, job, room):
@@ -66,10 +67,10 @@ def kernel_answer(library, name, job, room):
 def reopens(library, job, record):
     """Whether an accepted job, opened and written in C, opens as the same record."""
     opened, written = ctypes.create_string_buffer(JOB_STRUCT_BYTES), ctypes.create_string_buffer(MOST_JOB_BYTES)
-    if library.open_job(job, len(job), opened) != ref.ACCEPTED:
+    if library.open_job(job, len(job), opened) != rules.ACCEPTED:
         return False
     length = library.write_job(opened, written)
-    return ref.open_job(written.raw[:length]) == (ref.ACCEPTED, record)
+    return rules.open_job(written.raw[:length]) == (rules.ACCEPTED, record)
 
 
 def distinct(chance, low, high, count):
@@ -121,7 +122,7 @@ def own_job(chance):
     second = list(zip(voids, sorted(chance.randint(slowest, fastest) for _ in voids)))
     pairs = []
     for height in solids:
-        driest, wettest = ref.ceil_div(first[-1][1] * height, 10**8), ((first[0][1] + 1) * height - 1) // 10**8
+        driest, wettest = rules.ceil_div(first[-1][1] * height, 10**8), ((first[0][1] + 1) * height - 1) // 10**8
         water = chance.choice([driest, wettest, (driest + wettest) // 2, chance.randint(driest, max(driest, wettest))])
         pairs.append((height, water))
     start = chance.choice([0, 0, 0, 1])
@@ -131,7 +132,7 @@ def own_job(chance):
     top_level = chance.choice([0, 10_000_000, 200_000_000_000])
     bottom_level = bottom * chance.choice([0, top_level, top_level + 500_000_000, 200_000_000_000])
     load = chance.choice([0, greatest, greatest // 3, chance.randint(0, greatest), chance.randint(0, 2_000_000_000)])
-    return ref.job_bytes(ref.Job(
+    return rules.job_bytes(rules.Job(
         top=chance.choice([0, 1, 1]), bottom=bottom, start=start, gravity=chance.choice([1_000, 2_650, 5_000]),
         top_level=top_level, bottom_level=min(bottom_level, 200_000_000_000),
         end=chance.choice([1, 1_000, 3_000_000_000, 3_000_000_000, 3_000_000_000]),
@@ -142,7 +143,7 @@ def own_job(chance):
 def whole_job(chance):
     """A job whose first resistances are whole without rounding, and small against the flows."""
     elements = chance.choice([1, 2, 7, 8, 16, 128])
-    return ref.job_bytes(ref.Job(
+    return rules.job_bytes(rules.Job(
         top=1, gravity=2_650, end=3_000_000_000, budget=max(3, ELEMENT_STEPS // elements),
         elements=[(100_000_000, 100_000 * chance.randint(4_500, 5_500)) for _ in range(elements)],
         curve1=[(0, 900_000_000), (800_000_000, 100_000_000)],
@@ -154,8 +155,8 @@ def jobs():
     for number in range(WHOLE_JOBS):
         yield whole_job(random.Random(number))
     for opening in make_scenarios.openings():
-        yield ref.affordable_job(opening.body)
-    yield from ref.make_inputs("jobs", 20, MADE_JOBS)
+        yield makers.affordable_job(opening.body)
+    yield from makers.make_inputs("jobs", 20, MADE_JOBS)
     for number in range(OWN_JOBS):
         yield own_job(random.Random(number))
 
@@ -166,8 +167,8 @@ def main():
     with tempfile.TemporaryDirectory() as directory:
         library = load_library(directory)
     for number, job in enumerate(jobs()):
-        refusal, record = ref.open_job(job)
-        length = ref.result_length(record.elements)
+        refusal, record = rules.open_job(job)
+        length = rules.result_length(record.elements)
         for room in (length - 1, length + ROOM_AFTER):
             expected = reference_answer(job, room)
             refusals[expected[0]] += 1

@@ -21,7 +21,10 @@ from typing import Callable, Iterator, List, Tuple
 HERE = os.path.dirname(os.path.abspath(__file__))
 sys.path.insert(0, HERE)
 
-import reference as ref  # noqa: E402
+import damage  # noqa: E402
+import makers  # noqa: E402
+import rules  # noqa: E402
+from chance import Chance  # noqa: E402
 from make_scenarios import words  # noqa: E402
 from make_vectors import Vector, needed  # noqa: E402
 
@@ -33,7 +36,7 @@ MOST_ROOM = 8_192
 def case_bytes(vector: Vector) -> bytes:
     """A case with the reference's answer."""
     buffer = bytearray(vector.room)
-    number = ref.key_into(vector.job, buffer)
+    number = rules.key_into(vector.job, buffer)
     result = b"" if number else bytes(buffer[:needed(vector.job)])
     return words([1, len(vector.job), vector.room, number, len(result)]) + vector.job + result
 
@@ -42,56 +45,57 @@ def case_bytes(vector: Vector) -> bytes:
 # Families of cases, drawn in groups
 # ----------------------------------------------------------------------------------------------------------------
 
-def near_enough(chance: ref.Chance, job: bytes) -> int:
+def near_enough(chance: Chance, job: bytes) -> int:
     """A buffer's length: mostly enough for the job."""
     return max(0, needed(job) + chance.pick([0, 0, 0, 0, 0, 1, 3, 40, -1, -40]))
 
 
-def small_job(chance: ref.Chance) -> bytes:
+def small_job(chance: Chance) -> bytes:
     """A small job that is accepted."""
     while True:
-        job = ref.job_bytes(ref.make_job(chance))
-        if len(job) <= SMALL and ref.open_job(job)[0] == 0:
+        job = rules.job_bytes(makers.make_job(chance))
+        if len(job) <= SMALL and rules.open_job(job)[0] == 0:
             return job
 
 
-def sound(chance: ref.Chance) -> Iterator[Vector]:
+def sound(chance: Chance) -> Iterator[Vector]:
     """A job that is mostly accepted."""
-    job = ref.job_bytes(ref.make_job(chance))
+    job = rules.job_bytes(makers.make_job(chance))
     yield Vector(job, near_enough(chance, job))
 
 
-def long_run(chance: ref.Chance) -> Iterator[Vector]:
+def long_run(chance: Chance) -> Iterator[Vector]:
     """A small job with a longer run."""
-    ref.AFFORDABLE = LONG_RUN
+    makers.AFFORDABLE = LONG_RUN
     job = small_job(chance)
-    ref.AFFORDABLE = SHORT_RUN
+    makers.AFFORDABLE = SHORT_RUN
     yield Vector(job, needed(job))
 
 
-def damaged(chance: ref.Chance) -> Iterator[Vector]:
+def damaged(chance: Chance) -> Iterator[Vector]:
     """A job damaged in each way, and twice."""
-    for damage in ref.DAMAGES:
-        job = ref.affordable_job(damage(chance, ref.make_job(chance)))
+    for way in damage.DAMAGES:
+        job = makers.affordable_job(way(chance, makers.make_job(chance)))
         yield Vector(job, near_enough(chance, job))
-    job = chance.pick(ref.DAMAGES)(chance, ref.make_job(chance))
+    job = chance.pick(damage.DAMAGES)(chance, makers.make_job(chance))
     offset = chance.between(0, len(job))
-    job = ref.affordable_job(ref.changed(job, offset, bytes([chance.between(0, 255)]) if offset < len(job) else b""))
+    new = bytes([chance.between(0, 255)]) if offset < len(job) else b""
+    job = makers.affordable_job(damage.changed(job, offset, new))
     yield Vector(job, near_enough(chance, job))
 
 
-def headers(chance: ref.Chance) -> Iterator[Vector]:
+def headers(chance: Chance) -> Iterator[Vector]:
     """Every byte of a job's header changed to other values."""
     job = small_job(chance)
-    for offset in range(ref.JOB_HEADER):
+    for offset in range(rules.JOB_HEADER):
         old = job[offset]
         values = {0, 1, 2, 64, 65, 128, 129, 255, old ^ 1, old ^ 128, (old + 1) % 256, (old - 1) % 256}
         for value in sorted(values - {old}):
-            changed = ref.affordable_job(ref.changed(job, offset, bytes([value])))
+            changed = makers.affordable_job(damage.changed(job, offset, bytes([value])))
             yield Vector(changed, needed(job))
 
 
-def truncations(chance: ref.Chance) -> Iterator[Vector]:
+def truncations(chance: Chance) -> Iterator[Vector]:
     """Every length that a job can be cut to, and a few that are too long."""
     job = small_job(chance)
     for length in range(len(job)):
@@ -100,16 +104,16 @@ def truncations(chance: ref.Chance) -> Iterator[Vector]:
         yield Vector(job + bytes(more), needed(job))
 
 
-def rooms(chance: ref.Chance) -> Iterator[Vector]:
+def rooms(chance: Chance) -> Iterator[Vector]:
     """Buffers of every length about the needed one, none at all, a byte, and a large one."""
-    job = ref.job_bytes(ref.make_job(chance))
+    job = rules.job_bytes(makers.make_job(chance))
     for more in range(-3, 4):
         yield Vector(job, needed(job) + more)
     for room in (0, 1, 56, MOST_ROOM):
         yield Vector(job, room)
 
 
-def random_bytes(chance: ref.Chance) -> Iterator[Vector]:
+def random_bytes(chance: Chance) -> Iterator[Vector]:
     """Any bytes, with and without a right mark, header and length."""
     def some(count: int) -> bytes:
         return b"".join(bytes([chance.draw() & 255]) for _ in range(count))
@@ -117,26 +121,26 @@ def random_bytes(chance: ref.Chance) -> Iterator[Vector]:
     right = b"LSC" + struct.pack("<H7BH", 1, 1, 1, 1, 2, 2, 1, chance.between(0, 1), 2_650) + b"\0\0"
     for head in (b"", b"LSC", b"LSC\1\0", right[:12]):
         yield Vector(head + some(chance.between(0, 200)), chance.between(0, 200))
-    body = b"".join(words([chance.scaled(0, chance.pick([10**3, 10**9, ref.U64_MAX]))]) for _ in range(16))
-    job = ref.affordable_job(right + body)
+    body = b"".join(words([chance.scaled(0, chance.pick([10**3, 10**9, rules.U64_MAX]))]) for _ in range(16))
+    job = makers.affordable_job(right + body)
     yield Vector(job, needed(job))
 
 
 # Families in the order of the stream, with their shares of the count in hundredths; sound jobs make up the rest.
-FAMILIES: List[Tuple[int, Callable[[ref.Chance], Iterator[Vector]]]] = [
+FAMILIES: List[Tuple[int, Callable[[Chance], Iterator[Vector]]]] = [
     (6, truncations), (16, headers), (10, rooms), (4, random_bytes), (26, damaged)]
 LONG_RUNS = 1_000  # one longer run in so many cases
 
 
 def cases(seed: int, count: int) -> Iterator[Vector]:
     """At least so many cases."""
-    ref.AFFORDABLE = SHORT_RUN
+    makers.AFFORDABLE = SHORT_RUN
     made = index = 0
 
-    def group(family: Callable[[ref.Chance], Iterator[Vector]]) -> Iterator[Vector]:
+    def group(family: Callable[[Chance], Iterator[Vector]]) -> Iterator[Vector]:
         nonlocal made, index
         index += 1
-        for vector in family(ref.Chance(seed, index)):
+        for vector in family(Chance(seed, index)):
             made += 1
             yield vector
 

@@ -19,13 +19,13 @@ from typing import Dict, List, Sequence, Tuple
 HERE = os.path.dirname(os.path.abspath(__file__))
 sys.path.insert(0, HERE)
 
-import reference as ref  # noqa: E402
+import rules  # noqa: E402
 
 FOLDER = os.path.join(os.path.dirname(HERE), "examples")
 
 DAY = 86_400
 YEAR = 365 * DAY
-BUDGET = ref.BUDGET[1]
+BUDGET = rules.BUDGET[1]
 
 Pair = Tuple[int, int]
 Texts = Sequence[Tuple[str, str]]
@@ -90,32 +90,32 @@ def loads(points: Sequence[Tuple[int, str]]) -> List[Pair]:
     return [(days * DAY, kilopascals(load)) for days, load in points]
 
 
-EXAMPLES: Dict[str, ref.Job] = {
+EXAMPLES: Dict[str, rules.Job] = {
     # The paper's specimen: two elements, one step of 100 s.
-    "specimen": ref.Job(
+    "specimen": rules.Job(
         top=DRAINED, bottom=CLOSED, start=GIVEN, gravity=1_000, top_level=10_000_000, end=100, budget=1,
         elements=[(1_000_000, 2_000_000)] * 2,
         curve1=[(5_000_000, 200_000_000), (105_000_000, 100_000_000)],
         curve2=[(100_000_000, 100_000), (200_000_000, 200_000)],
         table=[(0, 15_000_000)]),
     # 8.4 m of tailings, void ratio 5 throughout, settle under their own weight beneath a pond; 12 years.
-    "tailings_pond": ref.Job(
+    "tailings_pond": rules.Job(
         top=DRAINED, bottom=CLOSED, start=GIVEN, gravity=2_650, top_level=metres("9"), end=12 * YEAR, budget=BUDGET,
         elements=elements(40, "0.035", "5"), table=loads([(0, "0")]), **TAILINGS),
     # 4.1 m of mud at rest in a basin with a tight floor is filled on in three stages, to 70 kPa; 10 years.
-    "dredged_mud": ref.Job(
+    "dredged_mud": rules.Job(
         top=DRAINED, bottom=CLOSED, start=AT_REST, gravity=2_680, top_level=metres("5"), end=10 * YEAR, budget=BUDGET,
         elements=elements(32, "0.04"),
         table=loads([(0, "1"), (60, "1"), (90, "15"), (365, "15"), (395, "35"), (1_095, "35"), (1_155, "70")]), **MUD),
     # 7.9 m of fresh mud over sand whose water stands 1.5 m above the mud's: first it drains both ways, then water rises
     # through it; 10 years.
-    "artesian_bottom": ref.Job(
+    "artesian_bottom": rules.Job(
         top=DRAINED, bottom=DRAINED, start=GIVEN, gravity=2_700, top_level=metres("9"), bottom_level=metres("10.5"),
         end=10 * YEAR, budget=BUDGET,
         elements=elements(36, "0.05", "3.4"), table=loads([(0, "5")]), **MUD),
     # 6.7 m of clay at rest between two layers of sand with equal levels gets an embankment of 85 kPa within 60 days;
     # 15 years.
-    "two_way_drainage": ref.Job(
+    "two_way_drainage": rules.Job(
         top=DRAINED, bottom=DRAINED, start=AT_REST, gravity=2_720, top_level=metres("8"), bottom_level=metres("8"),
         end=15 * YEAR, budget=BUDGET,
         elements=elements(48, "0.05"), table=loads([(0, "5"), (60, "5"), (120, "90")]), **CLAY),
@@ -124,8 +124,8 @@ EXAMPLES: Dict[str, ref.Job] = {
 
 def made_files() -> Dict[str, bytes]:
     """The bytes of every example, each of which opens."""
-    made = {"%s.job" % name: ref.job_bytes(job) for name, job in EXAMPLES.items()}
-    assert all(ref.open_job(data)[0] == ref.ACCEPTED for data in made.values())
+    made = {"%s.job" % name: rules.job_bytes(job) for name, job in EXAMPLES.items()}
+    assert all(rules.open_job(data)[0] == rules.ACCEPTED for data in made.values())
     return made
 
 

@@ -37,12 +37,16 @@ import os
 import struct
 import sys
 from dataclasses import replace
-from typing import Callable, Dict, Iterable, Iterator, List, NamedTuple, Sequence, Tuple
+from typing import Callable, Dict, Iterable, Iterator, List, NamedTuple, Optional, Sequence, Tuple
 
 HERE = os.path.dirname(os.path.abspath(__file__))
 sys.path.insert(0, HERE)
 
-import reference as ref  # noqa: E402
+import damage  # noqa: E402
+import lists  # noqa: E402
+import makers  # noqa: E402
+import rules  # noqa: E402
+from chance import I64_MAX, I64_MIN, TOP_BIT, Chance  # noqa: E402
 
 LISTS = 2_400   # at least so many lists
 RUNS = True     # whether runs are among the calls
@@ -54,7 +58,7 @@ CALL_NUMBERS = {"load": 0, "step": 1, "run": 2}
 BODY_BYTES = 8_192
 CALLS = 32      # most calls of a list
 RECORD_WORDS = 20
-TOP_BIT, I64_MIN, I64_MAX, U64_MAX = ref.TOP_BIT, ref.I64_MIN, ref.I64_MAX, ref.U64_MAX
+U64_MAX = rules.U64_MAX
 
 Call = Tuple[str, int, int]
 Pair = Tuple[int, int]
@@ -68,12 +72,12 @@ class CallList(NamedTuple):
     calls: List[Call]
 
 
-def from_job(job: ref.Job, calls: List[Call]) -> CallList:
+def from_job(job: rules.Job, calls: List[Call]) -> CallList:
     """A list that begins with a job."""
-    return CallList(JOB, ref.job_bytes(job), calls)
+    return CallList(JOB, rules.job_bytes(job), calls)
 
 
-def from_record(record: ref.Record, calls: List[Call]) -> CallList:
+def from_record(record: rules.Record, calls: List[Call]) -> CallList:
     """A list that begins with a record."""
     body = record_body(record)
     assert body_record(body) == record
@@ -95,18 +99,18 @@ def signed(word: int) -> int:
     return word - 2**64 if word >= TOP_BIT else word
 
 
-def face_numbers(face: ref.Optional[int]) -> List[int]:
+def face_numbers(face: Optional[int]) -> List[int]:
     """A face as two numbers."""
     return [0, 0] if face is None else [1, face]
 
 
-def written_pairs(record: ref.Record) -> List[List[Pair]]:
+def written_pairs(record: rules.Record) -> List[List[Pair]]:
     """The record's arrays as pairs, without the zeros at their ends."""
     arrays = [list(zip(record.solids, record.water)), record.curve1, record.curve2, record.table]
-    return [ref.without_trailing(pairs, (0, 0)) for pairs in arrays]
+    return [lists.without_trailing(pairs, (0, 0)) for pairs in arrays]
 
 
-def record_body(record: ref.Record) -> bytes:
+def record_body(record: rules.Record) -> bytes:
     """The bytes of a record."""
     arrays = written_pairs(record)
     numbers = [record.elements, record.curve1_count, record.curve2_count, record.table_count, record.gravity]
@@ -117,16 +121,16 @@ def record_body(record: ref.Record) -> bytes:
     return words(numbers + [number for pairs in arrays for pair in pairs for number in pair])
 
 
-def body_record(body: bytes) -> ref.Record:
+def body_record(body: bytes) -> rules.Record:
     """The record that bytes give."""
     numbers = struct.unpack("<%dQ" % (len(body) // 8), body)
     arrays, at = [], RECORD_WORDS
-    for count, places in zip(numbers[16:20], (ref.ELEMENT_PLACES,) + (ref.POINT_PLACES,) * 3):
+    for count, places in zip(numbers[16:20], (rules.ELEMENT_PLACES,) + (rules.POINT_PLACES,) * 3):
         pairs = list(zip(numbers[at:at + 2 * count:2], numbers[at + 1:at + 2 * count:2]))
-        arrays.append(ref.padded(pairs, places, (0, 0)))
+        arrays.append(rules.padded(pairs, places, (0, 0)))
         at += 2 * count
     top, bottom = [signed(held) if kind else None for kind, held in (numbers[5:7], numbers[7:9])]
-    return ref.Record(
+    return rules.Record(
         elements=numbers[0], curve1_count=numbers[1], curve2_count=numbers[2], table_count=numbers[3],
         gravity=numbers[4], top=top, bottom=bottom, top_level=signed(numbers[9]), bottom_level=signed(numbers[10]),
         load=signed(numbers[11]), clock=numbers[12], top_outflow=signed(numbers[13]),
@@ -155,7 +159,7 @@ def row(name: str, numbers: Iterable[int]) -> str:
     return " ".join([name] + [str(number) for number in numbers])
 
 
-def site_lines(record: ref.Record) -> List[str]:
+def site_lines(record: rules.Record) -> List[str]:
     """What no call changes."""
     lines = [row("site", [record.elements, record.curve1_count, record.curve2_count, record.table_count, record.gravity]
                  + face_numbers(record.top) + face_numbers(record.bottom) + [record.top_level, record.bottom_level])]
@@ -163,7 +167,7 @@ def site_lines(record: ref.Record) -> List[str]:
     for names, pairs in ((("stress", "void"), record.curve1), (("conductivity_void", "conductivity"), record.curve2),
                          (("time", "load_at"), record.table)):
         columns += [(name, [pair[side] for pair in pairs]) for side, name in enumerate(names)]
-    return lines + [row(name, ref.without_trailing(column, 0)) for name, column in columns]
+    return lines + [row(name, lists.without_trailing(column, 0)) for name, column in columns]
 
 
 def note(counts: Dict[int, int], number: int) -> None:
@@ -180,18 +184,18 @@ class Answers:
         self.refusals: Dict[int, int] = {}
         self.stops: Dict[int, int] = {}
 
-    def opened(self, item: CallList) -> Tuple[str, ref.Record]:
+    def opened(self, item: CallList) -> Tuple[str, rules.Record]:
         """The line of an opening, and the record that it gives."""
         if item.kind == RECORD:
             return "record", body_record(item.body)
-        refusal, record = ref.open_job(item.body)
+        refusal, record = rules.open_job(item.body)
         note(self.refusals, refusal)
         return "opened %d" % refusal, record
 
-    def called(self, record: ref.Record, call: Call) -> str:
+    def called(self, record: rules.Record, call: Call) -> str:
         """The line of a call, made on the record."""
         name, a, b = call
-        line = ref.answer_call(record, name, [a, b] if name == "run" else [a])
+        line = lists.answer_call(record, name, [a, b] if name == "run" else [a])
         numbers = [int(word) for word in line.split(" ")[1:]]
         note(self.refusals, numbers[0])
         if len(numbers) == 3:
@@ -203,9 +207,9 @@ class Answers:
         """The lines of a list."""
         self.lists += 1
         line, record = self.opened(item)
-        lines = ["list %d" % number, line, ref.state_line(record)]
+        lines = ["list %d" % number, line, lists.state_line(record)]
         for call in item.calls:
-            lines += [self.called(record, call), ref.state_line(record)]
+            lines += [self.called(record, call), lists.state_line(record)]
         return lines + site_lines(record)
 
     def summary(self) -> str:
@@ -220,17 +224,17 @@ class Answers:
 # Jobs
 # ----------------------------------------------------------------------------------------------------------------
 
-def specimen(**changes) -> ref.Job:
+def specimen(**changes) -> rules.Job:
     """The paper's specimen, with changes."""
-    return replace(ref.Job(
+    return replace(rules.Job(
         top=1, gravity=1_000, top_level=10_000_000, end=100, budget=1, elements=[(1_000_000, 2_000_000)] * 2,
         curve1=[(5_000_000, 200_000_000), (105_000_000, 100_000_000)],
         curve2=[(100_000_000, 100_000), (200_000_000, 200_000)], table=[(0, 15_000_000)]), **changes)
 
 
-def mud(**changes) -> ref.Job:
+def mud(**changes) -> rules.Job:
     """Three unlike elements with weight between drained faces, artesian, under a load that rises and falls."""
-    return replace(ref.Job(
+    return replace(rules.Job(
         top=1, bottom=1, gravity=2_650, top_level=10_000_000, bottom_level=12_000_000, end=9_000, budget=50,
         elements=[(1_000_000, 2_000_000), (2_000_000, 4_400_000), (500_000, 1_200_000)],
         curve1=[(1_000_000, 300_000_000), (20_000_000, 180_000_000), (200_000_000, 90_000_000)],
@@ -238,34 +242,34 @@ def mud(**changes) -> ref.Job:
         table=[(0, 5_000_000), (1_000, 40_000_000), (5_000, 10_000_000)]), **changes)
 
 
-def resting(job: ref.Job, **changes) -> ref.Job:
+def resting(job: rules.Job, **changes) -> rules.Job:
     """A job in start 1, with changes."""
     job = replace(job, **changes)
     return replace(job, start=1, elements=[(solids, 0) for solids, _ in job.elements])
 
 
-def widest(**changes) -> ref.Job:
+def widest(**changes) -> rules.Job:
     """All counts and all limits at their greatest; the lowest 64 elements stand at the curve's dry end."""
     voids = [1_000_000_000 - 15_873_015 * i for i in range(63)] + [1]
     stresses = [31_746_031 * i for i in range(63)] + [2_000_000_000]
     conductivities = [1] + [15_873_015 * i for i in range(1, 63)] + [1_000_000_000]
     times = [47_619_047 * i for i in range(63)] + [3_000_000_000]
     loads = [1_000_000_000 if i % 2 else 31_746_031 * i for i in range(63)] + [2_000_000_000]
-    return replace(ref.Job(
+    return replace(rules.Job(
         top=1, bottom=1, gravity=5_000, top_level=200_000_000_000, bottom_level=200_000_000_000, end=3_000_000_000,
         budget=1_000_000, elements=[(100_000_000, 1)] * 64 + [(100_000_000, 1_000_000_000)] * 64,
         curve1=list(zip(stresses, voids)), curve2=list(zip(reversed(voids), conductivities)),
         table=list(zip(times, loads))), **changes)
 
 
-def with_pair(job: ref.Job, name: str, place: int, pair: Pair) -> ref.Job:
+def with_pair(job: rules.Job, name: str, place: int, pair: Pair) -> rules.Job:
     """A job with one of its pairs replaced."""
     pairs = list(getattr(job, name))
     pairs[place] = pair
     return replace(job, **{name: pairs})
 
 
-def with_side(job: ref.Job, name: str, place: int, side: int, number: int) -> ref.Job:
+def with_side(job: rules.Job, name: str, place: int, side: int, number: int) -> rules.Job:
     """A job with one number of one of its pairs replaced."""
     pair = list(getattr(job, name)[place])
     pair[side] = number
@@ -284,22 +288,22 @@ def outside(limits: Pair) -> List[int]:
 
 # ---- each cause of a refused opening, in several ways
 
-def unmarked(job: ref.Job) -> Iterator[bytes]:
+def unmarked(job: rules.Job) -> Iterator[bytes]:
     """Cause 1."""
-    data = ref.job_bytes(job)
+    data = rules.job_bytes(job)
     for length in (0, 1, 2, 3, 4, 8, 16, 47):
         yield data[:length]
     for mark in (b"LSR", b"lSC", b"MSC", b"LTC", b"LSD", b"LS\0", b"\0SC", b"CSL"):
         yield mark + data[3:]
 
 
-def other_versions(job: ref.Job) -> Iterator[bytes]:
+def other_versions(job: rules.Job) -> Iterator[bytes]:
     """Cause 2."""
     for version in (0, 2, 3, 255, 256, 257, 65_535):
-        yield ref.job_bytes(replace(job, version=version))
+        yield rules.job_bytes(replace(job, version=version))
 
 
-def headers_outside(job: ref.Job) -> Iterator[bytes]:
+def headers_outside(job: rules.Job) -> Iterator[bytes]:
     """Cause 3, with the length that the counts ask for, and without."""
     for changes in ({"top": 2}, {"top": 255}, {"bottom": 2}, {"bottom": 255}, {"start": 2}, {"start": 255},
                     {"gravity": 0}, {"gravity": 999}, {"gravity": 5_001}, {"gravity": 65_535},
@@ -308,38 +312,38 @@ def headers_outside(job: ref.Job) -> Iterator[bytes]:
                     {"curve1": []}, {"curve1": job.curve1[:1]}, {"curve1": job.curve1[:1] * 65},
                     {"curve2": []}, {"curve2": job.curve2[:1]}, {"curve2": job.curve2[:1] * 65},
                     {"table": []}, {"table": job.table[:1] * 65}, {"table": job.table[:1] * 255}):
-        yield ref.job_bytes(replace(job, **changes))
-    data = ref.job_bytes(job)
+        yield rules.job_bytes(replace(job, **changes))
+    data = rules.job_bytes(job)
     for offset, values in ((7, (0, 129, 255)), (8, (0, 1, 65)), (9, (0, 1, 65)), (10, (0, 65, 255))):
         for value in values:
-            yield ref.changed(data, offset, bytes([value]))
+            yield damage.changed(data, offset, bytes([value]))
 
 
-def wrong_lengths(job: ref.Job) -> Iterator[bytes]:
+def wrong_lengths(job: rules.Job) -> Iterator[bytes]:
     """Cause 4."""
-    data = ref.job_bytes(job)
+    data = rules.job_bytes(job)
     for length in (48, len(data) - 16, len(data) - 8, len(data) - 1):
         yield data[:length]
     for more in (1, 8, 16, BODY_BYTES - len(data)):
         yield data + bytes(more)
     for offset in (7, 8, 9, 10):
-        yield ref.changed(data, offset, bytes([data[offset] + 1]))
+        yield damage.changed(data, offset, bytes([data[offset] + 1]))
 
 
-def fields_outside(job: ref.Job) -> Iterator[bytes]:
+def fields_outside(job: rules.Job) -> Iterator[bytes]:
     """Cause 5."""
     jobs = [replace(job, **{name: number}) for name, limits in (
-        ("top_level", ref.LEVEL), ("bottom_level", ref.LEVEL), ("end", ref.CLOCK), ("budget", ref.BUDGET))
+        ("top_level", rules.LEVEL), ("bottom_level", rules.LEVEL), ("end", rules.CLOCK), ("budget", rules.BUDGET))
             for number in above(limits)]
     for place in (0, len(job.elements) - 1):
-        jobs += [with_side(job, "elements", place, 0, number) for number in outside(ref.SOLIDS)]
-        jobs += [with_side(job, "elements", place, 1, number) for number in above(ref.WATER)]
+        jobs += [with_side(job, "elements", place, 0, number) for number in outside(rules.SOLIDS)]
+        jobs += [with_side(job, "elements", place, 1, number) for number in above(rules.WATER)]
         jobs += [with_side(resting(job), "elements", place, 1, number) for number in (1, 1_000_000_000, U64_MAX)]
     jobs += [replace(job, bottom=0, bottom_level=number) for number in (1, 200_000_000_000)]
-    yield from map(ref.job_bytes, jobs)
+    yield from map(rules.job_bytes, jobs)
 
 
-def unsound_points(job: ref.Job, name: str, limits: Tuple[Pair, Pair], order: Tuple[int, int]) -> Iterator[ref.Job]:
+def unsound_points(job: rules.Job, name: str, limits: Tuple[Pair, Pair], order: Tuple[int, int]) -> Iterator[rules.Job]:
     """Points outside limits, and neighbours in the wrong order (1 must rise, -1 must fall, 0 may stay)."""
     points = getattr(job, name)
     for place in (0, len(points) - 1):
@@ -356,77 +360,77 @@ def unsound_points(job: ref.Job, name: str, limits: Tuple[Pair, Pair], order: Tu
                 yield with_side(job, name, place, side, beyond)
 
 
-def first_curves(job: ref.Job) -> Iterator[bytes]:
+def first_curves(job: rules.Job) -> Iterator[bytes]:
     """Cause 6."""
-    yield from map(ref.job_bytes, unsound_points(job, "curve1", (ref.STRESS, ref.VOID), (1, -1)))
+    yield from map(rules.job_bytes, unsound_points(job, "curve1", (rules.STRESS, rules.VOID), (1, -1)))
 
 
-def second_curves(job: ref.Job) -> Iterator[bytes]:
+def second_curves(job: rules.Job) -> Iterator[bytes]:
     """Cause 7."""
-    yield from map(ref.job_bytes, unsound_points(job, "curve2", (ref.VOID, ref.CONDUCTIVITY), (1, 0)))
-    yield ref.job_bytes(with_side(job, "curve2", 0, 0, job.curve1[-1][1] + 1))
-    yield ref.job_bytes(with_side(job, "curve2", -1, 0, job.curve1[0][1] - 1))
+    yield from map(rules.job_bytes, unsound_points(job, "curve2", (rules.VOID, rules.CONDUCTIVITY), (1, 0)))
+    yield rules.job_bytes(with_side(job, "curve2", 0, 0, job.curve1[-1][1] + 1))
+    yield rules.job_bytes(with_side(job, "curve2", -1, 0, job.curve1[0][1] - 1))
 
 
-def load_tables(job: ref.Job) -> Iterator[bytes]:
+def load_tables(job: rules.Job) -> Iterator[bytes]:
     """Cause 8."""
     for number in (1, 3_000_000_000):
-        yield ref.job_bytes(with_side(job, "table", 0, 0, number))
-    for number in above(ref.STRESS):
-        yield ref.job_bytes(with_side(job, "table", 0, 1, number))
+        yield rules.job_bytes(with_side(job, "table", 0, 0, number))
+    for number in above(rules.STRESS):
+        yield rules.job_bytes(with_side(job, "table", 0, 1, number))
     last = job.table[-1]
     for pair in ((last[0], 1), (0, 1), (3_000_000_001, 1), (U64_MAX, 1), (last[0] + 1, 2_000_000_001)):
-        yield ref.job_bytes(replace(job, table=job.table + [pair]))
-    yield ref.job_bytes(replace(job, table=job.table + [(last[0] + 2, 0), (last[0] + 1, 0)]))
+        yield rules.job_bytes(replace(job, table=job.table + [pair]))
+    yield rules.job_bytes(replace(job, table=job.table + [(last[0] + 2, 0), (last[0] + 1, 0)]))
 
 
-def starts_off_curve(job: ref.Job) -> Iterator[bytes]:
+def starts_off_curve(job: rules.Job) -> Iterator[bytes]:
     """Cause 9: water just off either end; in start 1 a load just past either end, or E that jumps over the curve."""
     for place, (solids, _) in enumerate(job.elements):
-        wettest = ((job.curve1[0][1] + 1) * solids - 1) // ref.VOID_UNIT
-        driest = ref.ceil_div(job.curve1[-1][1] * solids, ref.VOID_UNIT)
+        wettest = ((job.curve1[0][1] + 1) * solids - 1) // rules.VOID_UNIT
+        driest = rules.ceil_div(job.curve1[-1][1] * solids, rules.VOID_UNIT)
         for water in (0, driest - 1, wettest + 1, 1_000_000_000):
-            yield ref.job_bytes(with_side(job, "elements", place, 1, water))
-    burden = max(ref.buoyant_stresses([solids for solids, _ in job.elements], job.gravity))
-    least = min(ref.buoyant_stresses([solids for solids, _ in job.elements], job.gravity))
+            yield rules.job_bytes(with_side(job, "elements", place, 1, water))
+    burden = max(rules.buoyant_stresses([solids for solids, _ in job.elements], job.gravity))
+    least = min(rules.buoyant_stresses([solids for solids, _ in job.elements], job.gravity))
     for load in (0, job.curve1[0][0] - least - 1, job.curve1[-1][0] - burden + 1, job.curve1[-1][0], 2_000_000_000):
         if load + burden > job.curve1[-1][0] or load + least < job.curve1[0][0]:
-            yield ref.job_bytes(resting(job, table=[(0, load)]))
+            yield rules.job_bytes(resting(job, table=[(0, load)]))
     thin = [(100_000, 0)]
     for curve in ([(0, 1_999), (1_000, 1_001)], [(500, 2_000), (1_000, 1_001)], [(0, 999), (1_000, 1)]):
-        yield ref.job_bytes(resting(job, gravity=1_000, elements=thin, curve1=curve,
-                                    curve2=[(1, 1), (1_000_000_000, 1)], table=[(0, 499)]))
+        yield rules.job_bytes(resting(job, gravity=1_000, elements=thin, curve1=curve,
+                                      curve2=[(1, 1), (1_000_000_000, 1)], table=[(0, 499)]))
 
 
-CAUSES: Dict[int, Callable[[ref.Job], Iterator[bytes]]] = {
+CAUSES: Dict[int, Callable[[rules.Job], Iterator[bytes]]] = {
     1: unmarked, 2: other_versions, 3: headers_outside, 4: wrong_lengths, 5: fields_outside, 6: first_curves,
     7: second_curves, 8: load_tables, 9: starts_off_curve}
 
 # Faults that leave room for a second one.
-FAULTS: Dict[int, List[Callable[[ref.Job], ref.Job]]] = {
+FAULTS: Dict[int, List[Callable[[rules.Job], rules.Job]]] = {
     1: [lambda job: replace(job, mark=b"LSD")],
     2: [lambda job: replace(job, version=2), lambda job: replace(job, version=0)],
     3: [lambda job: replace(job, spare=b"\0\1"), lambda job: replace(job, gravity=999),
         lambda job: replace(job, start=2)],
     4: [lambda job: job],
-    5: [lambda job: replace(job, top_level=ref.LEVEL[1] + 1), lambda job: replace(job, budget=ref.BUDGET[1] + 1)],
+    5: [lambda job: replace(job, top_level=rules.LEVEL[1] + 1), lambda job: replace(job, budget=rules.BUDGET[1] + 1)],
     6: [lambda job: with_side(job, "curve1", 0, 0, U64_MAX), lambda job: with_side(job, "curve1", -1, 1, 0)],
     7: [lambda job: with_side(job, "curve2", 0, 1, 0), lambda job: with_side(job, "curve2", -1, 0, U64_MAX)],
     8: [lambda job: with_side(job, "table", 0, 0, 1), lambda job: with_side(job, "table", -1, 1, TOP_BIT)],
     9: [lambda job: with_side(job, "elements", 0, 1, 0), lambda job: with_side(job, "elements", -1, 1, 1_000_000_000)]}
 
 
-def two_causes(job: ref.Job) -> Iterator[Tuple[int, bytes]]:
+def two_causes(job: rules.Job) -> Iterator[Tuple[int, bytes]]:
     """Jobs with two causes at once, and the one that is tested first."""
     for first, firsts in FAULTS.items():
         for second, seconds in FAULTS.items():
             if first < second:
                 for number, spoil in enumerate(firsts):
                     spoiled = seconds[number % len(seconds)](spoil(job))
-                    yield first, ref.job_bytes(spoiled) + bytes(8 if 4 in (first, second) else 0)
+                    yield first, rules.job_bytes(spoiled) + bytes(8 if 4 in (first, second) else 0)
 
 
-def accepted_edges() -> Iterator[ref.Job]:
+def accepted_edges() -> Iterator[rules.Job]:
     """Jobs at the limits that are still accepted."""
     yield from (specimen(), mud(), widest(), resting(specimen()), resting(mud()))
     for changes in ({"top_level": 0}, {"top_level": 200_000_000_000}, {"end": 0}, {"end": 3_000_000_000},
@@ -461,11 +465,11 @@ def openings() -> Iterator[CallList]:
     calls = [("load", 1_000_000, 0), ("step", 1, 0)]
 
     def opening(data: bytes, refusal: int) -> CallList:
-        assert ref.open_job(data)[0] == refusal, (refusal, data[:48].hex())
+        assert rules.open_job(data)[0] == refusal, (refusal, data[:48].hex())
         return CallList(JOB, data, calls)
 
     for job in accepted_edges():
-        yield opening(ref.job_bytes(job), 0)
+        yield opening(rules.job_bytes(job), 0)
     for cause, ways in CAUSES.items():
         for job in (specimen(), mud()):
             for data in ways(job):
@@ -479,73 +483,73 @@ def openings() -> Iterator[CallList]:
 # Records
 # ----------------------------------------------------------------------------------------------------------------
 
-def opened(job: ref.Job) -> ref.Record:
+def opened(job: rules.Job) -> rules.Record:
     """The record of an accepted job."""
-    refusal, record = ref.open_job(ref.job_bytes(job))
+    refusal, record = rules.open_job(rules.job_bytes(job))
     assert refusal == 0, refusal
     return record
 
 
-def stepped(job: ref.Job, *steps: int) -> ref.Record:
+def stepped(job: rules.Job, *steps: int) -> rules.Record:
     """The record of a job after steps."""
     record = opened(job)
     for seconds in steps:
-        assert ref.step_call(record, seconds) == 0
+        assert rules.step_call(record, seconds) == 0
     return record
 
 
-def with_place(record: ref.Record, name: str, place: int, value) -> ref.Record:
+def with_place(record: rules.Record, name: str, place: int, value) -> rules.Record:
     """A record with one place of an array replaced."""
     array = list(getattr(record, name))
     array[place] = value
     return replace(record.copy(), **{name: array})
 
 
-def balanced(record: ref.Record) -> ref.Record:
+def balanced(record: rules.Record) -> rules.Record:
     """A record with the starting water that its water and outflows add up to."""
     return replace(record, starting_water=sum(record.water_heights()) + record.top_outflow + record.bottom_outflow)
 
 
-def past_counts(record: ref.Record) -> ref.Record:
+def past_counts(record: rules.Record) -> rules.Record:
     """A record with numbers in every place past a count."""
     filled = record.copy()
-    for place in range(record.elements, ref.ELEMENT_PLACES):
+    for place in range(record.elements, rules.ELEMENT_PLACES):
         filled.solids[place], filled.water[place] = U64_MAX - place, TOP_BIT + place
-    for name in ref.RECORD_POINTS:
+    for name in lists.RECORD_POINTS:
         points = getattr(filled, name)
-        for place in range(getattr(filled, name + "_count"), ref.POINT_PLACES):
+        for place in range(getattr(filled, name + "_count"), rules.POINT_PLACES):
             points[place] = (place, U64_MAX - place)
     return filled
 
 
 # When a record is a layer, clause by clause.
-CLAUSES: Dict[str, Callable[[ref.Record], bool]] = {
-    "elements": lambda r: ref.within(r.elements, ref.ELEMENTS),
-    "first count": lambda r: ref.within(r.curve1_count, ref.CURVE_POINTS),
-    "second count": lambda r: ref.within(r.curve2_count, ref.CURVE_POINTS),
-    "table count": lambda r: ref.within(r.table_count, ref.TABLE_POINTS),
-    "gravity": lambda r: ref.within(r.gravity, ref.GRAVITY),
-    "top level": lambda r: ref.within(r.top_level, ref.LEVEL),
-    "bottom level": lambda r: ref.within(r.bottom_level, ref.LEVEL),
+CLAUSES: Dict[str, Callable[[rules.Record], bool]] = {
+    "elements": lambda r: rules.within(r.elements, rules.ELEMENTS),
+    "first count": lambda r: rules.within(r.curve1_count, rules.CURVE_POINTS),
+    "second count": lambda r: rules.within(r.curve2_count, rules.CURVE_POINTS),
+    "table count": lambda r: rules.within(r.table_count, rules.TABLE_POINTS),
+    "gravity": lambda r: rules.within(r.gravity, rules.GRAVITY),
+    "top level": lambda r: rules.within(r.top_level, rules.LEVEL),
+    "bottom level": lambda r: rules.within(r.bottom_level, rules.LEVEL),
     "closed bottom": lambda r: r.bottom is not None or r.bottom_level == 0,
-    "solids": lambda r: all(ref.within(solids, ref.SOLIDS) for solids in r.solid_heights()),
-    "first curve": lambda r: ref.is_compressibility(r.first_points()),
-    "second curve": lambda r: ref.is_permeability(r.second_points(), r.first_points()),
-    "load table": lambda r: ref.is_load_table(r.table_points()),
+    "solids": lambda r: all(rules.within(solids, rules.SOLIDS) for solids in r.solid_heights()),
+    "first curve": lambda r: rules.is_compressibility(r.first_points()),
+    "second curve": lambda r: rules.is_permeability(r.second_points(), r.first_points()),
+    "load table": lambda r: rules.is_load_table(r.table_points()),
     "top pressure": lambda r: r.top in (None, 0),
-    "bottom pressure": lambda r: r.bottom in (None, ref.bottom_pressure(r)),
+    "bottom pressure": lambda r: r.bottom in (None, rules.bottom_pressure(r)),
     "on the curve": lambda r: all(
-        ref.Compressibility(r.first_points()).holds(ref.void_ratio(solids, water))
+        rules.Compressibility(r.first_points()).holds(rules.void_ratio(solids, water))
         for solids, water in zip(r.solid_heights(), r.water_heights())),
-    "load": lambda r: ref.within(r.load, ref.STRESS),
-    "clock": lambda r: ref.within(r.clock, ref.CLOCK),
-    "starting water": lambda r: ref.within(r.starting_water, ref.STARTING_WATER),
-    "balance": ref.water_balances,
-    "top outflow": lambda r: abs(r.top_outflow) <= ref.OUTFLOW_PER_SECOND * r.clock,
-    "bottom outflow": lambda r: abs(r.bottom_outflow) <= ref.OUTFLOW_PER_SECOND * r.clock}
+    "load": lambda r: rules.within(r.load, rules.STRESS),
+    "clock": lambda r: rules.within(r.clock, rules.CLOCK),
+    "starting water": lambda r: rules.within(r.starting_water, rules.STARTING_WATER),
+    "balance": rules.water_balances,
+    "top outflow": lambda r: abs(r.top_outflow) <= rules.OUTFLOW_PER_SECOND * r.clock,
+    "bottom outflow": lambda r: abs(r.bottom_outflow) <= rules.OUTFLOW_PER_SECOND * r.clock}
 
 
-def counts_outside() -> Iterator[ref.Record]:
+def counts_outside() -> Iterator[rules.Record]:
     """Counts past their arrays, too great and too small."""
     small, great = opened(specimen()), opened(widest())
     for count in (0, 3, 128, 129, 200, TOP_BIT, U64_MAX):
@@ -563,19 +567,19 @@ def counts_outside() -> Iterator[ref.Record]:
     yield replace(small, elements=0, solids=[0] * 128, water=[0] * 128, starting_water=0)
 
 
-def levels_outside() -> Iterator[ref.Record]:
+def levels_outside() -> Iterator[rules.Record]:
     """Levels outside limits, with and without the pressure that they give; a closed bottom with a level."""
     closed, drained = stepped(specimen(), 100), stepped(mud(), 1)
     for level in (-1, 200_000_000_001, I64_MIN, I64_MAX):
         yield replace(closed, top_level=level)
         yield replace(drained, bottom_level=level)
-        yield replace(drained, bottom_level=level, bottom=ref.head_pressure(level - 10_000_000)
+        yield replace(drained, bottom_level=level, bottom=rules.head_pressure(level - 10_000_000)
                       if abs(level) < I64_MAX // 981 else I64_MAX)
     for level in (1, 12_000_000, -1):
         yield replace(closed, bottom_level=level)
 
 
-def solids_outside() -> Iterator[ref.Record]:
+def solids_outside() -> Iterator[rules.Record]:
     """Solids outside limits, with water that keeps the void ratio on the curve, and solids that put it off."""
     record = stepped(mud(), 1)
     for place in (0, 2):
@@ -586,24 +590,24 @@ def solids_outside() -> Iterator[ref.Record]:
                 yield balanced(with_place(changed, "water", place, 2 * solids))
 
 
-def points_unsound() -> Iterator[ref.Record]:
+def points_unsound() -> Iterator[rules.Record]:
     """Curves and load tables that are refused at opening, in a record."""
     for job in (specimen(), mud()):
         base = stepped(job, 1)
-        spoiled = list(unsound_points(job, "curve1", (ref.STRESS, ref.VOID), (1, -1)))
-        spoiled += list(unsound_points(job, "curve2", (ref.VOID, ref.CONDUCTIVITY), (1, 0)))
-        spoiled += list(unsound_points(job, "table", (ref.CLOCK, ref.STRESS), (1, 0)))
+        spoiled = list(unsound_points(job, "curve1", (rules.STRESS, rules.VOID), (1, -1)))
+        spoiled += list(unsound_points(job, "curve2", (rules.VOID, rules.CONDUCTIVITY), (1, 0)))
+        spoiled += list(unsound_points(job, "table", (rules.CLOCK, rules.STRESS), (1, 0)))
         spoiled += [with_side(job, "curve2", 0, 0, job.curve1[-1][1] + 1),
                     with_side(job, "curve2", -1, 0, job.curve1[0][1] - 1), with_side(job, "table", 0, 0, 1)]
         for changed in spoiled:
             record = base.copy()
-            for name in ref.RECORD_POINTS:
+            for name in lists.RECORD_POINTS:
                 getattr(record, name)[:len(getattr(changed, name))] = getattr(changed, name)
-            if not ref.is_layer(record):
+            if not rules.is_layer(record):
                 yield record
 
 
-def pressures_wrong() -> Iterator[ref.Record]:
+def pressures_wrong() -> Iterator[rules.Record]:
     """Faces that hold another pressure than theirs."""
     closed, drained = stepped(specimen(), 100), stepped(mud(), 1)
     for pressure in (1, -1, I64_MIN, I64_MAX, 19_620):
@@ -615,7 +619,7 @@ def pressures_wrong() -> Iterator[ref.Record]:
     yield replace(drained, bottom_level=12_000_102)
 
 
-def waters_outside() -> Iterator[ref.Record]:
+def waters_outside() -> Iterator[rules.Record]:
     """Water off the curve or out of its limits, balanced and not."""
     record = stepped(mud(), 1)
     for place, solids in ((0, 1_000_000), (1, 2_000_000), (2, 500_000)):
@@ -627,7 +631,7 @@ def waters_outside() -> Iterator[ref.Record]:
     yield with_place(record, "water", 1, record.water[1] + 1)
 
 
-def numbers_outside() -> Iterator[ref.Record]:
+def numbers_outside() -> Iterator[rules.Record]:
     """Load, clock and starting water."""
     record, late = stepped(mud(), 1), replace(stepped(mud(), 1), clock=3_000_000_000)
     for load in (-1, 2_000_000_001, I64_MIN, I64_MAX):
@@ -641,11 +645,11 @@ def numbers_outside() -> Iterator[ref.Record]:
     yield replace(late, starting_water=128_000_000_001, top_outflow=0, bottom_outflow=128_000_000_001 - water)
 
 
-def outflows_outside() -> Iterator[ref.Record]:
+def outflows_outside() -> Iterator[rules.Record]:
     """Outflows past their bound in balance, and at the ends of 64 bits, where a sum that wraps would balance."""
     for clock in (0, 1, 1_000, 3_000_000_000):
         record = balanced(replace(opened(mud()), clock=clock))
-        most = ref.OUTFLOW_PER_SECOND * clock
+        most = rules.OUTFLOW_PER_SECOND * clock
         for top, bottom in ((most + 1, -most), (-most, most + 1), (-most - 1, most), (most, -most - 1),
                             (most + 1, -most - 1), (-most - 1, most + 1), (I64_MAX, -most), (most, I64_MIN)):
             changed = replace(record, top_outflow=top, bottom_outflow=bottom)
@@ -657,17 +661,17 @@ def outflows_outside() -> Iterator[ref.Record]:
                             (most, most), (-most, -most)):
             wrapped = (record.starting_water + top + bottom) & U64_MAX
             changed = replace(record, top_outflow=top, bottom_outflow=bottom, starting_water=wrapped)
-            if not ref.is_layer(changed):
+            if not rules.is_layer(changed):
                 yield changed
 
 
-def no_layers() -> Iterator[ref.Record]:
+def no_layers() -> Iterator[rules.Record]:
     """Records that are no layer; for each clause one at least that breaks it alone."""
     broken = set()
-    for record in [ref.Record()] + [record for make in (
+    for record in [rules.Record()] + [record for make in (
             counts_outside, levels_outside, solids_outside, points_unsound, pressures_wrong, waters_outside,
             numbers_outside, outflows_outside) for record in make()]:
-        assert not ref.is_layer(record)
+        assert not rules.is_layer(record)
         clauses = [name for name, holds in CLAUSES.items() if not clause_holds(holds, record)]
         assert clauses
         if len(clauses) == 1:
@@ -676,7 +680,7 @@ def no_layers() -> Iterator[ref.Record]:
     assert broken == set(CLAUSES), sorted(set(CLAUSES) - broken)
 
 
-def clause_holds(holds: Callable[[ref.Record], bool], record: ref.Record) -> bool:
+def clause_holds(holds: Callable[[rules.Record], bool], record: rules.Record) -> bool:
     """Whether a clause holds; one that cannot be worked does not."""
     try:
         return holds(record)
@@ -684,7 +688,7 @@ def clause_holds(holds: Callable[[ref.Record], bool], record: ref.Record) -> boo
         return False
 
 
-def odd_layers() -> Iterator[ref.Record]:
+def odd_layers() -> Iterator[rules.Record]:
     """Records that are layers at the limits, or that no opening gives."""
     base, rich, great = stepped(specimen(), 100), stepped(mud(), 1), opened(widest())
     yield from (base, rich, great)
@@ -693,7 +697,7 @@ def odd_layers() -> Iterator[ref.Record]:
     yield from (replace(rich, top=None), replace(rich, bottom=None, bottom_level=0), replace(base, gravity=5_000))
     yield replace(base, top_level=0, bottom=0)
     for clock in (1, 1_000, 3_000_000_000):
-        most = ref.OUTFLOW_PER_SECOND * clock
+        most = rules.OUTFLOW_PER_SECOND * clock
         for top, bottom in ((most, -most), (-most, most)):
             yield replace(opened(mud()), clock=clock, top_outflow=top, bottom_outflow=bottom)
     late = replace(opened(mud()), clock=3_000_000_000 - 1)
@@ -718,7 +722,7 @@ def records(runs: bool) -> Iterator[CallList]:
             calls += [("run", 3_000_000_000, 5), ("run", 0, U64_MAX)]
         yield from_record(record, calls)
     for record in odd_layers():
-        assert ref.is_layer(record)
+        assert rules.is_layer(record)
         calls = [("step", 0, 0), ("load", 2_000_000_001, 0)] + bounded_steps(record)
         calls += [("load", 0, 0), ("step", 1, 0), ("load", 2_000_000_000, 0), ("step", 1, 0)]
         if runs:
@@ -730,9 +734,9 @@ def records(runs: bool) -> Iterator[CallList]:
 # Calls on opened jobs
 # ----------------------------------------------------------------------------------------------------------------
 
-def bounded_steps(record: ref.Record) -> List[Call]:
+def bounded_steps(record: rules.Record) -> List[Call]:
     """Steps one past the longest, at the longest, and at and past the limits of step and clock."""
-    longest = ref.possible_step(record)
+    longest = makers.possible_step(record)
     left = 3_000_000_000 - record.clock
     seconds = [longest + 1, 1_000_001, left + 1, longest, left, left - longest, 1_000_000, U64_MAX]
     return [("step", number, 0) for number in seconds if number >= 0]
@@ -770,11 +774,11 @@ def worked_lists() -> Iterator[CallList]:
     # artesian, falling and rising heads that push water in and draw it out
     for level in (0, 9_999_898, 10_000_102, 110_000_000, 200_000_000_000):
         yield from_job(specimen(bottom=1, bottom_level=level), steps(*[200] * 6))
-        yield from_job(mud(bottom_level=level), steps(*[ref.possible_step(opened(mud()))] * 6))
+        yield from_job(mud(bottom_level=level), steps(*[makers.possible_step(opened(mud()))] * 6))
     # loads up and down with steps between
     loads = (40_000_000, 3_000_000, 80_000_000, 1_000_000, 15_000_000)
     for job in (specimen(), mud(), resting(mud())):
-        longest = ref.possible_step(opened(job))
+        longest = makers.possible_step(opened(job))
         cycle = steps(longest, longest + 1, longest)
         yield from_job(job, [call for load in loads for call in [("load", load, 0)] + cycle])
     for count in (127, 128):
@@ -784,7 +788,7 @@ def worked_lists() -> Iterator[CallList]:
 
 def run_lists() -> Iterator[CallList]:
     """Runs made by hand: every stop, budgets and ends at their limits, and refusals 16."""
-    fast, last = [(1, 1_000_000_000), (1_000_000_000, 1_000_000_000)], ref.CLOCK[1]
+    fast, last = [(1, 1_000_000_000), (1_000_000_000, 1_000_000_000)], rules.CLOCK[1]
     for job, calls in (
             (specimen(), [run(0, 0), run(1, 0), run(367, 1), run(369, 1), run(369, 0), run(369, 1_000_000)]),
             (specimen(curve2=fast), [run(9, 9), run(9, 0), run(0, 9)]),
@@ -804,7 +808,7 @@ def run_lists() -> Iterator[CallList]:
         yield from_job(job, calls)
 
 
-def million() -> ref.Job:
+def million() -> rules.Job:
     """One element whose run takes a million steps and does not come to the end."""
     return specimen(elements=[(1_000_000, 2_000_000)], table=[(0, 15_000_000), (3_000_000_000, 100_000_000)],
                     curve2=[(100_000_000, 10_000), (200_000_000, 40_000)])
@@ -812,44 +816,44 @@ def million() -> ref.Job:
 
 # ---- drawn lists
 
-def drawn_calls(chance: ref.Chance, record: ref.Record, count: int, runs: bool) -> List[Call]:
+def drawn_calls(chance: Chance, record: rules.Record, count: int, runs: bool) -> List[Call]:
     """Calls, each drawn for the record as the one before leaves it; the record moves with them."""
     calls: List[Call] = []
     while len(calls) < count:
-        name, numbers = ref.make_call(chance, record)
+        name, numbers = makers.make_call(chance, record)
         if name == "run" and not runs:
             continue
         numbers = [min(number, U64_MAX) for number in numbers]
-        ref.answer_call(record, name, numbers)
+        lists.answer_call(record, name, numbers)
         calls.append((name, numbers[0], numbers[1] if name == "run" else 0))
     return calls
 
 
-def drawn_job(chance: ref.Chance, damaged_one_in: int) -> bytes:
+def drawn_job(chance: Chance, damaged_one_in: int) -> bytes:
     """A job, mostly a small one."""
     room = BODY_BYTES if chance.one_in(25) else 480
     while True:
-        job = ref.made_job(chance, damaged_one_in)
+        job = makers.made_job(chance, damaged_one_in)
         if len(job) <= room:
             return job
 
 
-def drawn_list(chance: ref.Chance, runs: bool) -> CallList:
+def drawn_list(chance: Chance, runs: bool) -> CallList:
     """A list from a job."""
     job = drawn_job(chance, 10)
-    return CallList(JOB, job, drawn_calls(chance, ref.open_job(job)[1], chance.between(1, 10), runs))
+    return CallList(JOB, job, drawn_calls(chance, rules.open_job(job)[1], chance.between(1, 10), runs))
 
 
-def drawn_record(chance: ref.Chance, runs: bool) -> CallList:
+def drawn_record(chance: Chance, runs: bool) -> CallList:
     """A list from a record, which is a layer or no layer."""
-    refusal, record = ref.open_job(drawn_job(chance, 30))
+    refusal, record = rules.open_job(drawn_job(chance, 30))
     if refusal == 0:
         if chance.one_in(2):
-            ref.age_record(chance, record)
+            makers.age_record(chance, record)
         if chance.one_in(6):
-            ref.fill_past_counts(chance, record)
+            makers.fill_past_counts(chance, record)
         if chance.one_in(3):
-            ref.spoil_record(chance, record)
+            damage.spoil_record(chance, record)
     return from_record(record, drawn_calls(chance, record.copy(), chance.between(1, 8), runs))
 
 
@@ -863,7 +867,7 @@ def all_lists(least: int, runs: bool) -> Dict[str, List[CallList]]:
     if runs:
         files["runs"] = list(run_lists())
     left = max(0, least - sum(len(items) for items in files.values()))
-    chances = [ref.Chance(SEED, index) for index in range(left)]
+    chances = [Chance(SEED, index) for index in range(left)]
     files["drawn_jobs"] = [drawn_list(chance, runs) for chance in chances[:left * 2 // 3]]
     files["drawn_records"] = [drawn_record(chance, runs) for chance in chances[left * 2 // 3:]]
     return files
@@ -929,9 +933,9 @@ def write(made: Dict[str, bytes], crate: str = CRATE) -> None:
 def show(item: CallList) -> List[str]:
     """A list as statements of `reference.py calls`, each with its answers indented below it."""
     statements = ["job %s" % item.body.hex() if item.body else "job"] if item.kind == JOB \
-        else ref.record_lines(body_record(item.body))
+        else lists.record_lines(body_record(item.body))
     statements += [row(name, [a, b] if name == "run" else [a]) for name, a, b in item.calls]
-    script = ref.Script()
+    script = lists.Script()
     return [line for statement in statements
             for line in [statement] + ["    " + answer for answer in script.answer(statement)]]
 

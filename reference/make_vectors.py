@@ -29,8 +29,12 @@ from typing import Callable, Dict, Iterator, List, NamedTuple, Optional, Tuple
 HERE = os.path.dirname(os.path.abspath(__file__))
 sys.path.insert(0, HERE)
 
-import reference as ref  # noqa: E402
+import damage  # noqa: E402
 import make_scenarios as scenarios  # noqa: E402
+import makers  # noqa: E402
+import printing  # noqa: E402
+import rules  # noqa: E402
+from chance import Chance  # noqa: E402
 from make_scenarios import mud, note, resting, specimen, widest, with_side, words  # noqa: E402
 
 SEED = 30_000
@@ -50,12 +54,12 @@ class Vector(NamedTuple):
 
 def needed(job: bytes) -> int:
     """Length of the result that a job's element count asks for, as far as there is one."""
-    return ref.result_length(job[7]) if len(job) > 7 else ref.result_length(1)
+    return rules.result_length(job[7]) if len(job) > 7 else rules.result_length(1)
 
 
-def fitting(job: ref.Job) -> Vector:
+def fitting(job: rules.Job) -> Vector:
     """A job with a buffer of just the result's length."""
-    return Vector(ref.job_bytes(job), ref.result_length(len(job.elements)))
+    return Vector(rules.job_bytes(job), rules.result_length(len(job.elements)))
 
 
 class Worked:
@@ -65,8 +69,8 @@ class Worked:
         assert len(vector.job) <= MOST_BYTES and vector.room <= MOST_BYTES
         self.job, self.room = vector
         self.buffer = bytearray([FILLER]) * vector.room
-        self.refusal = ref.key_into(vector.job, self.buffer)
-        self.parts: Optional[ref.Job] = None if self.refusal else ref.read_job(vector.job)
+        self.refusal = rules.key_into(vector.job, self.buffer)
+        self.parts: Optional[rules.Job] = None if self.refusal else rules.read_job(vector.job)
         if self.parts is not None:
             self.stop = self.buffer[5]
             self.clock, self.steps, self.load, self.top, self.bottom, self.settlement = struct.unpack(
@@ -87,14 +91,14 @@ WHOLE = [(1, 1), (1_000_000_000, 1_000_000_000)]
 FAST = [(1, 1_000_000_000), (1_000_000_000, 1_000_000_000)]
 
 
-def long_mud(**changes) -> ref.Job:
+def long_mud(**changes) -> rules.Job:
     """Mud with 64 points in both curves and in the load table."""
     return mud(curve1=[(1_000_000 + 3_000_000 * i, 300_000_000 - 3_300_000 * i) for i in range(64)],
                curve2=[(80_000_000 + 4_000_000 * i, 2_000 + 900 * i) for i in range(64)],
                table=[(150 * i, 5_000_000 + 1_000_000 * (i % 7) * (i % 5)) for i in range(64)], **changes)
 
 
-def limit_jobs() -> Iterator[ref.Job]:
+def limit_jobs() -> Iterator[rules.Job]:
     """Jobs at a limit, or at the nearest order of points, that are still accepted."""
     for changes in ({"gravity": 1_000}, {"gravity": 1_001}, {"gravity": 4_999}, {"top_level": 199_999_999_999},
                     {"end": 2_999_999_999}, {"budget": 999_999}, {"end": 0, "budget": 0}, {"end": 1}):
@@ -115,7 +119,7 @@ def limit_jobs() -> Iterator[ref.Job]:
     yield from (long_mud(), resting(long_mud()), long_mud(elements=[(1_000_000, 2_000_000)] * 40, budget=12))
 
 
-def run_jobs() -> Iterator[ref.Job]:
+def run_jobs() -> Iterator[rules.Job]:
     """Runs to every stop, in both starts, through every pair of faces."""
     for top, bottom in ((0, 0), (0, 1), (1, 0), (1, 1)):
         for level in (0, 10_000_000, 60_000_000)[:1 + 2 * bottom]:
@@ -152,7 +156,7 @@ def run_jobs() -> Iterator[ref.Job]:
 def accepted() -> Iterator[Vector]:
     """Accepted jobs at the limits with short runs, each with a buffer of just the result's length."""
     for job in list(scenarios.accepted_edges()) + list(limit_jobs()):
-        data = ref.affordable_job(ref.job_bytes(job))
+        data = makers.affordable_job(rules.job_bytes(job))
         yield Vector(data, needed(data))
 
 
@@ -200,10 +204,10 @@ def several_causes() -> Iterator[Tuple[int, Vector]]:
     for job in (specimen(), mud()):
         for number, (cause, data) in enumerate(scenarios.two_causes(job)):
             yield cause, Vector(data, (needed(data), needed(data) - 1, 0)[number % 3])
-        enough = ref.result_length(len(job.elements))
+        enough = rules.result_length(len(job.elements))
         for cause, faults in scenarios.FAULTS.items():
             for fault in faults:
-                data = ref.job_bytes(fault(job)) + bytes(8 if cause == 4 else 0)
+                data = rules.job_bytes(fault(job)) + bytes(8 if cause == 4 else 0)
                 for room in (0, 56, enough - 1, enough):
                     yield cause, Vector(data, room)
         # all faults at once, then without the first, the first two, and so on
@@ -211,7 +215,7 @@ def several_causes() -> Iterator[Tuple[int, Vector]]:
             spoiled = job
             for cause in range(first, 10):
                 spoiled = scenarios.FAULTS[cause][0](spoiled)
-            data = ref.job_bytes(spoiled) + bytes(8 if first <= 4 else 0)
+            data = rules.job_bytes(spoiled) + bytes(8 if first <= 4 else 0)
             yield first, Vector(data, enough - 1)
             yield first if first < 10 else 0, Vector(data, enough)
 
@@ -219,21 +223,21 @@ def several_causes() -> Iterator[Tuple[int, Vector]]:
 def header_bytes() -> Iterator[Vector]:
     """Every byte of the header changed in turn."""
     for job, flips in ((specimen(), (1, 2, 128, 255)), (mud(), (1, 64)), (resting(specimen()), (1,))):
-        data = ref.job_bytes(job)
-        for offset in range(ref.JOB_HEADER):
+        data = rules.job_bytes(job)
+        for offset in range(rules.JOB_HEADER):
             for flip in flips:
-                yield Vector(ref.changed(data, offset, bytes([data[offset] ^ flip])), 136)
+                yield Vector(damage.changed(data, offset, bytes([data[offset] ^ flip])), 136)
 
 
 def rooms() -> Iterator[Vector]:
     """Buffers of every length about the result's, the shortest and the longest."""
     for job in (specimen(), mud(), resting(specimen()), specimen(elements=[(1_000_000, 2_000_000)])):
-        data = ref.job_bytes(job)
+        data = rules.job_bytes(job)
         enough = needed(data)
         for room in list(range(enough - 9, enough + 10)) + [0, 1, 7, 8, 55, 56, 57, enough - 40, enough + 40]:
             yield Vector(data, room)
-    yield Vector(ref.job_bytes(specimen()), MOST_BYTES)
-    great = ref.job_bytes(specimen(elements=[(1_000_000, 1_990_000)] * 128, budget=3))
+    yield Vector(rules.job_bytes(specimen()), MOST_BYTES)
+    great = rules.job_bytes(specimen(elements=[(1_000_000, 1_990_000)] * 128, budget=3))
     for room in (5_175, 5_176, 5_177, 0):
         yield Vector(great, room)
     for data in (great[:-16], b"", bytes(MOST_BYTES), b"LSC" + bytes(MOST_BYTES - 3)):
@@ -244,7 +248,7 @@ def rooms() -> Iterator[Vector]:
 # Drawn jobs
 # ----------------------------------------------------------------------------------------------------------------
 
-def drawn_room(chance: ref.Chance, job: bytes) -> int:
+def drawn_room(chance: Chance, job: bytes) -> int:
     """A buffer's length: mostly enough, with none or a few bytes to spare."""
     enough = needed(job)
     room = chance.pick([enough] * 6 + [enough + chance.between(0, 50)] * 2 + [enough - 1, chance.between(0, enough)])
@@ -253,7 +257,7 @@ def drawn_room(chance: ref.Chance, job: bytes) -> int:
 
 def drawn_vector(index: int) -> Vector:
     """A job, sound or damaged, mostly small, and a buffer."""
-    chance = ref.Chance(SEED, index)
+    chance = Chance(SEED, index)
     job = scenarios.drawn_job(chance, 5)
     return Vector(job, drawn_room(chance, job))
 
@@ -328,8 +332,8 @@ def expected(pairs: Iterator[Tuple[int, Vector]]) -> List[Vector]:
     """Vectors that the reference refuses for the cause that they were made for."""
     vectors = []
     for cause, vector in pairs:
-        opened = ref.open_job(vector.job)[0]
-        assert opened == (0 if cause == ref.SHORT_BUFFER else cause), (cause, opened, vector.job[:48].hex())
+        opened = rules.open_job(vector.job)[0]
+        assert opened == (0 if cause == rules.SHORT_BUFFER else cause), (cause, opened, vector.job[:48].hex())
         vectors.append(vector)
     return vectors
 
@@ -363,8 +367,8 @@ def made_files() -> Tuple[Dict[str, bytes], Counts]:
 def show(vector: Vector) -> List[str]:
     """A vector as tables."""
     worked = Worked(vector)
-    lines = ref.describe(vector.job) + ["", "room %d, answer %d" % (vector.room, worked.refusal)]
-    return lines + (ref.describe(bytes(worked.buffer[:needed(vector.job)])) if worked.parts else [])
+    lines = printing.describe(vector.job) + ["", "room %d, answer %d" % (vector.room, worked.refusal)]
+    return lines + (printing.describe(bytes(worked.buffer[:needed(vector.job)])) if worked.parts else [])
 
 
 def main() -> int:

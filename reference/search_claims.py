@@ -8,14 +8,17 @@ claims of `Tally` (test_reference.py) are checked. Prints each counterexample as
 import sys
 import time
 
-import reference as ref
+import makers
+import rules
+from chance import Chance
+from lists import answer_call
 from test_reference import Tally
 
 
 def extreme_solids(chance):
     """One to four elements, thin, thick, or of heights that divide the void unit or just do not."""
     pool = [100_000, 100_001, 100_000_000, 99_999_999, 50_000_000, 1_000_000, 33_333_333, 66_666_667,
-            chance.scaled(*ref.SOLIDS)]
+            chance.scaled(*rules.SOLIDS)]
     return [chance.pick(pool) for _ in range(chance.pick([1, 1, 2, 2, 3, 4]))]
 
 
@@ -43,8 +46,8 @@ def extreme_job(chance):
     """A job whose longest step is mostly a few seconds."""
     solids = extreme_solids(chance)
     curve1 = extreme_curve(chance)
-    curve = ref.Compressibility(curve1)
-    slowest = max(1, ref.usual_step(solids, curve, 1))
+    curve = rules.Compressibility(curve1)
+    slowest = max(1, makers.usual_step(solids, curve, 1))
     most = max(1, min(10**9, slowest // chance.pick([1, 2, 3, 10, chance.scaled(1, 10**6)])))
     least = chance.pick([most, 1, max(1, most // 2)])
     low, high = chance.pick([(1, 10**9), (curve.least_void, curve.greatest_void)])
@@ -58,10 +61,11 @@ def extreme_job(chance):
     times = [0] + distinct(chance, 3, 1, chance.scaled(8, 10**6))
     size = chance.pick([1, 1, 4])
     start = chance.pick([0, 0, 1])
-    water = [0] * len(solids) if start else ref.make_water(chance, solids, curve1)
-    return ref.Job(top=top, bottom=bottom, start=start, gravity=chance.pick([1_000, 1_000, 1_000, 1_001, 2_650, 5_000]),
-                   top_level=top_level, bottom_level=level, elements=list(zip(solids, water)), curve1=curve1,
-                   curve2=[(low, least), (high, most)], table=list(zip(times, loads))[:size])
+    water = [0] * len(solids) if start else makers.make_water(chance, solids, curve1)
+    return rules.Job(
+        top=top, bottom=bottom, start=start, gravity=chance.pick([1_000, 1_000, 1_000, 1_001, 2_650, 5_000]),
+        top_level=top_level, bottom_level=level, elements=list(zip(solids, water)), curve1=curve1,
+        curve2=[(low, least), (high, most)], table=list(zip(times, loads))[:size])
 
 
 def some_load(chance, stresses):
@@ -73,7 +77,7 @@ def some_load(chance, stresses):
 
 def one_call(chance, record, gentle):
     """A call: a step at its limit, a load, or a run of one step."""
-    longest = max(1, ref.possible_step(record))
+    longest = max(1, makers.possible_step(record))
     kind = chance.pick(["step", "step", "step", "load", "run", "run"])
     if kind == "step":
         return "step", [chance.pick([longest, longest, longest, 1, chance.between(1, longest)])]
@@ -90,10 +94,10 @@ def search(seconds, seed):
     finish = time.time() + seconds
     index = lists = checks = moved = at_bound = found = 0
     while time.time() < finish:
-        chance = ref.Chance(seed, index)
+        chance = Chance(seed, index)
         index += 1
-        job = ref.job_bytes(extreme_job(chance))
-        refusal, record = ref.open_job(job)
+        job = rules.job_bytes(extreme_job(chance))
+        refusal, record = rules.open_job(job)
         if refusal:
             continue
         lists += 1
@@ -104,11 +108,11 @@ def search(seconds, seed):
             water = record.water_heights()
             name, numbers = one_call(chance, record, gentle)
             lines.append(" ".join([name] + [str(number) for number in numbers]))
-            answer = ref.answer_call(record, name, numbers)
+            answer = answer_call(record, name, numbers)
             tally.set_load(record.load)
             checks += 1
             moved += water != record.water_heights()
-            excess = ref.excess_pressures(record)
+            excess = rules.excess_pressures(record)
             at_bound += min(excess) == tally.low - tally.falls or max(excess) == tally.high + tally.rises
             faults = tally.faults(record)
             if faults or answer.endswith(" 11"):

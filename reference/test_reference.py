@@ -1,5 +1,5 @@
 #!/usr/bin/env python3
-"""Tests of reference.py: `python3 test_reference.py`. Quiet when all is well; exit status 1 when a test fails."""
+"""Tests of the reference: `python3 test_reference.py`. Quiet when all is well; exit status 1 when a test fails."""
 
 from __future__ import annotations
 
@@ -16,32 +16,35 @@ from typing import Callable, Dict, Iterator, List, Optional, Tuple
 HERE = os.path.dirname(os.path.abspath(__file__))
 sys.path.insert(0, HERE)
 
-import reference as ref  # noqa: E402
+import lists  # noqa: E402
+import makers  # noqa: E402
+import rules  # noqa: E402
+from chance import Chance  # noqa: E402
 
 SEED = 1
 PROGRAM = os.path.join(HERE, "reference.py")
 
 
-def specimen(**changes) -> ref.Job:
+def specimen(**changes) -> rules.Job:
     """The specification's specimen, with changes."""
-    job = ref.Job(top=1, bottom=0, start=0, gravity=1_000, top_level=10_000_000, bottom_level=0, end=100, budget=1,
-                  elements=[(1_000_000, 2_000_000)] * 2,
-                  curve1=[(5_000_000, 200_000_000), (105_000_000, 100_000_000)],
-                  curve2=[(100_000_000, 100_000), (200_000_000, 200_000)],
-                  table=[(0, 15_000_000)])
+    job = rules.Job(top=1, bottom=0, start=0, gravity=1_000, top_level=10_000_000, bottom_level=0, end=100, budget=1,
+                    elements=[(1_000_000, 2_000_000)] * 2,
+                    curve1=[(5_000_000, 200_000_000), (105_000_000, 100_000_000)],
+                    curve2=[(100_000_000, 100_000), (200_000_000, 200_000)],
+                    table=[(0, 15_000_000)])
     for name, value in changes.items():
         setattr(job, name, value)
     return job
 
 
-def opened(job: ref.Job) -> ref.Record:
+def opened(job: rules.Job) -> rules.Record:
     """The record of a job that has to be accepted."""
-    refusal, record = ref.open_job(ref.job_bytes(job))
+    refusal, record = rules.open_job(rules.job_bytes(job))
     assert refusal == 0, refusal
     return record
 
 
-def equilibrium(load: int) -> ref.Job:
+def equilibrium(load: int) -> rules.Job:
     """The specimen in start 1 under a load."""
     return specimen(start=1, elements=[(1_000_000, 0)] * 2, table=[(0, load)])
 
@@ -51,27 +54,27 @@ class Specimen(unittest.TestCase):
 
     def test_case_1_resistance_and_excess_pressure(self) -> None:
         record = opened(specimen())
-        pressures, halves = ref.Layer(record).read(record.load, record.water)
+        pressures, halves = rules.Layer(record).read(record.load, record.water)
         self.assertEqual((pressures, halves), ([10_000_000] * 2, [73_575] * 2))
 
     def test_cases_2_and_3_two_steps(self) -> None:
         record = opened(specimen())
-        self.assertEqual(ref.step_call(record, 100), 0)
+        self.assertEqual(rules.step_call(record, 100), 0)
         self.assertEqual(record.water_heights(), [2_000_000, 1_986_409])
         self.assertEqual((record.top_outflow, record.bottom_outflow), (13_591, 0))
-        self.assertEqual(ref.element_rows(record)[1][2], 6_359_100)
-        self.assertEqual(ref.step_call(record, 100), 0)
+        self.assertEqual(rules.element_rows(record)[1][2], 6_359_100)
+        self.assertEqual(rules.step_call(record, 100), 0)
         self.assertEqual(record.water_heights(), [1_999_078, 1_975_614])
         self.assertEqual((record.top_outflow, record.clock), (25_308, 200))
 
     def test_case_4_longest_step(self) -> None:
-        self.assertEqual(ref.step_call(opened(specimen()), 367), 0)
-        self.assertEqual(ref.step_call(opened(specimen()), 368), 14)
+        self.assertEqual(rules.step_call(opened(specimen()), 367), 0)
+        self.assertEqual(rules.step_call(opened(specimen()), 368), 14)
 
     def test_case_5_off_the_curve(self) -> None:
         record = opened(specimen())
-        self.assertEqual(ref.load_call(record, 300_000_000), 0)
-        self.assertEqual(ref.step_call(record, 367), 15)
+        self.assertEqual(rules.load_call(record, 300_000_000), 0)
+        self.assertEqual(rules.step_call(record, 367), 15)
 
     def test_case_6_start_1(self) -> None:
         self.assertEqual(opened(equilibrium(15_000_000)).water_heights(), [1_900_000] * 2)
@@ -79,23 +82,23 @@ class Specimen(unittest.TestCase):
     def test_case_7_start_1_at_the_ends(self) -> None:
         self.assertEqual(opened(equilibrium(105_000_000)).water_heights(), [1_000_000] * 2)
         for load in (105_000_001, 4_999_999):
-            self.assertEqual(ref.open_job(ref.job_bytes(equilibrium(load)))[0], 9)
+            self.assertEqual(rules.open_job(rules.job_bytes(equilibrium(load)))[0], 9)
 
     def test_case_8_buoyant_stress(self) -> None:
-        self.assertEqual(ref.buoyant_stresses([1_000_000] * 2, 2_610), [23_691, 7_897])
+        self.assertEqual(rules.buoyant_stresses([1_000_000] * 2, 2_610), [23_691, 7_897])
 
     def test_case_9_head(self) -> None:
-        self.assertEqual((ref.head_pressure(1_000_000), ref.head_pressure(-50_000)), (9_810, -490))
+        self.assertEqual((rules.head_pressure(1_000_000), rules.head_pressure(-50_000)), (9_810, -490))
 
     def test_second_program(self) -> None:
-        job = ref.job_bytes(specimen())
+        job = rules.job_bytes(specimen())
         self.assertEqual(len(job), 160)
         numbers = [100, 1, 15_000_000, 13_591, 0, 13_591,
                    2_000_000, 200_000_000, 5_000_000, 15_083_385, 10_083_385,
                    1_986_409, 198_640_900, 6_359_100, 15_054_021, 8_694_921]
         expected = b"LSR" + bytes([1, 0, 0, 2, 0]) + struct.pack("<16Q", *numbers)
         self.assertEqual(len(expected), 136)
-        self.assertEqual(ref.key(job), (0, expected))
+        self.assertEqual(rules.key(job), (0, expected))
         self.assertEqual(run_program(["key"], job), (0, expected))
 
 
@@ -111,7 +114,7 @@ class Program(unittest.TestCase):
 
     def test_key_refuses(self) -> None:
         self.assertEqual(run_program(["key"]), (0, b"refused 1\n"))
-        self.assertEqual(run_program(["key"], ref.job_bytes(specimen()) + bytes(20_000)), (0, b"refused 4\n"))
+        self.assertEqual(run_program(["key"], rules.job_bytes(specimen()) + bytes(20_000)), (0, b"refused 4\n"))
 
     def test_help(self) -> None:
         for arguments in (["--help"], ["calls", "--help"]):
@@ -123,8 +126,8 @@ class Program(unittest.TestCase):
         record = opened(specimen())
         record.water[3] = 7
         script = "\n".join(
-            ["job", "load 1", "", "job " + ref.job_bytes(specimen()).hex(), "step 100", "step 369", "load 2000000001",
-             "run 200 5"] + ref.record_lines(record) + ["run 100 1", "run 99 1"]) + "\n"
+            ["job", "load 1", "", "job " + rules.job_bytes(specimen()).hex(), "step 100", "step 369", "load 2000000001",
+             "run 200 5"] + lists.record_lines(record) + ["run 100 1", "run 99 1"]) + "\n"
         lines = ["opened 1", "load 11", "state 0 0 0 0 0",
                  "opened 0",
                  "step 0", "state 15000000 100 13591 0 4000000 2000000 1986409",
@@ -139,34 +142,34 @@ class Program(unittest.TestCase):
     def test_calls_break_the_format(self) -> None:
         for script in ("load 1\n", "job 0\n", "job 00 00\n", "record\nload -1\n", "record\nload  1\n", "record\nstep\n",
                        "record\nload 18446744073709551616\n", "record\nstep 1\nclock 5\n", "record\ncurve1 1 2\n"):
-            with self.assertRaises(ref.ScriptError):
-                list(ref.answer_script(io.StringIO(script), "script"))
+            with self.assertRaises(lists.ScriptError):
+                list(lists.answer_script(io.StringIO(script), "script"))
 
     def test_record_lines_read_back(self) -> None:
-        for text in ref.make_inputs("records", SEED, 30):
-            script = ref.Script()
+        for text in makers.make_inputs("records", SEED, 30):
+            script = lists.Script()
             lines = text.decode().splitlines()
-            fields = [line for line in lines if line.split(" ")[0] not in ref.CALLS]
+            fields = [line for line in lines if line.split(" ")[0] not in lists.CALLS]
             for line in fields:
                 script.answer(line)
-            self.assertEqual(ref.record_lines(script.record), fields)
+            self.assertEqual(lists.record_lines(script.record), fields)
 
     def test_made_records_fit_64_bits(self) -> None:
         signed = ("top", "bottom", "top_outflow", "bottom_outflow")
-        for text in ref.make_inputs("records", SEED, 100):
+        for text in makers.make_inputs("records", SEED, 100):
             for line in text.decode().splitlines():
                 name, *words = line.split(" ")
-                least, most = (0, 2**64 - 1) if name in ref.CALLS else (-2**63 if name in signed else 0, 2**63 - 1)
+                least, most = (0, 2**64 - 1) if name in lists.CALLS else (-2**63 if name in signed else 0, 2**63 - 1)
                 for word in words:
                     if word not in ("closed", "drained"):
                         self.assertTrue(least <= int(word) <= most, line)
 
     def test_make_is_the_same_each_time(self) -> None:
         for kind in ("jobs", "lists", "records"):
-            self.assertEqual(list(ref.make_inputs(kind, SEED, 10)), list(ref.make_inputs(kind, SEED, 20))[:10])
+            self.assertEqual(list(makers.make_inputs(kind, SEED, 10)), list(makers.make_inputs(kind, SEED, 20))[:10])
 
 
-def first_job_pair(job: ref.Job, pair: ref.Pair, name: str) -> None:
+def first_job_pair(job: rules.Job, pair: rules.Pair, name: str) -> None:
     """Replace the first pair of one of a job's lists."""
     setattr(job, name, [pair] + getattr(job, name)[1:])
 
@@ -174,7 +177,7 @@ def first_job_pair(job: ref.Job, pair: ref.Pair, name: str) -> None:
 class Refusals(unittest.TestCase):
     """Causes, and the order in which they are tested."""
 
-    CHANGES: Dict[int, List[Callable[[ref.Job], None]]] = {
+    CHANGES: Dict[int, List[Callable[[rules.Job], None]]] = {
         1: [lambda job: setattr(job, "mark", b"LSR"), lambda job: setattr(job, "mark", b"lSC")],
         2: [lambda job: setattr(job, "version", 0), lambda job: setattr(job, "version", 257)],
         3: [lambda job: setattr(job, "top", 2), lambda job: setattr(job, "bottom", 255),
@@ -208,17 +211,17 @@ class Refusals(unittest.TestCase):
             lambda job: setattr(job, "elements", job.elements[:-1] + [(1_000_000, 999_999)])],
     }
     # One change of each cause that spoils nothing which the other one needs.
-    LATER: Dict[int, Callable[[ref.Job], None]] = {
+    LATER: Dict[int, Callable[[rules.Job], None]] = {
         2: CHANGES[2][0], 3: CHANGES[3][5], 5: CHANGES[5][0], 6: CHANGES[6][1], 7: CHANGES[7][1], 8: CHANGES[8][0],
         9: CHANGES[9][0]}
 
-    def answer(self, changes: List[Callable[[ref.Job], None]], extra: bytes = b"", room: int = 6_000) -> int:
+    def answer(self, changes: List[Callable[[rules.Job], None]], extra: bytes = b"", room: int = 6_000) -> int:
         """Refusal of the changed specimen, with bytes added to it; the buffer has to stay as it was."""
         job = specimen()
         for change in changes:
             change(job)
         buffer = bytearray(b"\xa5" * room)
-        refusal = ref.key_into(ref.job_bytes(job) + extra, buffer)
+        refusal = rules.key_into(rules.job_bytes(job) + extra, buffer)
         self.assertEqual(buffer, b"\xa5" * room)
         return refusal
 
@@ -229,9 +232,9 @@ class Refusals(unittest.TestCase):
         self.assertEqual(self.answer([], b"\0"), 4)
         self.assertEqual(self.answer([], b"", 135), 10)
         for length in (0, 1, 3, 47):
-            self.assertEqual(ref.open_job(ref.job_bytes(specimen())[:length])[0], 1)
+            self.assertEqual(rules.open_job(rules.job_bytes(specimen())[:length])[0], 1)
         for length in (48, 159):
-            self.assertEqual(ref.open_job(ref.job_bytes(specimen())[:length])[0], 4)
+            self.assertEqual(rules.open_job(rules.job_bytes(specimen())[:length])[0], 4)
 
     def test_earlier_cause_is_answered(self) -> None:
         for cause, changes in self.CHANGES.items():
@@ -244,23 +247,23 @@ class Refusals(unittest.TestCase):
         self.assertEqual(self.answer([], b"\0", 0), 4)
 
     def test_order_of_causes_of_a_call(self) -> None:
-        blank = ref.Record()
-        answers = ref.load_call(blank, 2**64 - 1), ref.step_call(blank, 0), ref.run_call(blank, 0, 2**64 - 1)[0]
+        blank = rules.Record()
+        answers = rules.load_call(blank, 2**64 - 1), rules.step_call(blank, 0), rules.run_call(blank, 0, 2**64 - 1)[0]
         self.assertEqual(answers, (11, 11, 11))
         record = opened(specimen())
-        self.assertEqual(ref.load_call(record, 300_000_000), 0)
+        self.assertEqual(rules.load_call(record, 300_000_000), 0)
         for seconds, cause in ((0, 13), (1_000_001, 13), (2**64 - 1, 13), (368, 14), (1_000_000, 14), (367, 15)):
-            self.assertEqual(ref.step_call(record, seconds), cause)
+            self.assertEqual(rules.step_call(record, seconds), cause)
         record.clock = 3_000_000_000 - 366
         for seconds, cause in ((1_000_000, 13), (368, 13), (367, 13), (366, 15)):
-            self.assertEqual(ref.step_call(record, seconds), cause)
+            self.assertEqual(rules.step_call(record, seconds), cause)
         for end, budget in ((record.clock - 1, 0), (3_000_000_001, 0), (2**64 - 1, 0), (record.clock, 1_000_001)):
-            self.assertEqual(ref.run_call(record, end, budget)[0], 16)
-        self.assertEqual(ref.run_call(record, record.clock, 0), (0, 0, 0))
+            self.assertEqual(rules.run_call(record, end, budget)[0], 16)
+        self.assertEqual(rules.run_call(record, record.clock, 0), (0, 0, 0))
 
     def test_buffer_past_the_result_is_kept(self) -> None:
         buffer = bytearray(b"\xa5" * 200)
-        self.assertEqual(ref.key_into(ref.job_bytes(specimen()), buffer), 0)
+        self.assertEqual(rules.key_into(rules.job_bytes(specimen()), buffer), 0)
         self.assertEqual((buffer[:3], buffer[136:]), (b"LSR", b"\xa5" * 64))
 
 
@@ -276,14 +279,14 @@ class Runs(unittest.TestCase):
                 ({"end": 9, "budget": 9, "curve2": [(1, 10**9), (10**9, 10**9)]}, (0, 2, 0)),
                 ({"end": 999, "budget": 9, "table": [(0, 300_000_000)]}, (0, 3, 0))):
             job = specimen(**changes)
-            self.assertEqual(ref.run_call(opened(job), job.end, job.budget), expected, changes)
+            self.assertEqual(rules.run_call(opened(job), job.end, job.budget), expected, changes)
 
     def test_stop_keeps_the_new_load_and_nothing_else(self) -> None:
         for soil in ({"curve2": [(1, 10**9), (10**9, 10**9)]}, {}):
             record = opened(specimen(table=[(0, 1_900_000_000)], **soil))
-            self.assertEqual(ref.load_call(record, 15_000_000), 0)
+            self.assertEqual(rules.load_call(record, 15_000_000), 0)
             before = record.copy()
-            refusal, stop, steps = ref.run_call(record, 1_000, 5)
+            refusal, stop, steps = rules.run_call(record, 1_000, 5)
             self.assertEqual((refusal, steps, record.load), (0, 0, 1_900_000_000))
             self.assertIn(stop, (2, 3))
             record.load = before.load
@@ -293,36 +296,36 @@ class Runs(unittest.TestCase):
         record = opened(specimen(table=[(0, 15_000_000), (3, 15_000_005), (10, 15_000_000)]))
         clocks, loads = [], []
         for _ in range(4):
-            self.assertEqual(ref.run_call(record, 2_000, 1), (0, 1, 1))
+            self.assertEqual(rules.run_call(record, 2_000, 1), (0, 1, 1))
             clocks.append(record.clock)
             loads.append(record.load)
         self.assertEqual((clocks[:2], loads[:3]), ([3, 10], [15_000_000, 15_000_005, 15_000_000]))
-        self.assertEqual(ref.table_load([(0, 10), (3, 5)], 1), 9)
-        self.assertEqual(ref.table_load([(0, 5), (3, 10)], 1), 6)
+        self.assertEqual(rules.table_load([(0, 10), (3, 5)], 1), 9)
+        self.assertEqual(rules.table_load([(0, 5), (3, 10)], 1), 6)
 
     def test_closed_single_element_has_no_longest_step(self) -> None:
         record = opened(specimen(top=0, elements=[(1_000_000, 2_000_000)]))
-        self.assertEqual(ref.step_call(record, 1_000_000), 0)
-        self.assertEqual(ref.run_call(record, 3_000_000_000, 1_000_000), (0, 0, 2_999))
+        self.assertEqual(rules.step_call(record, 1_000_000), 0)
+        self.assertEqual(rules.run_call(record, 3_000_000_000, 1_000_000), (0, 0, 2_999))
         self.assertEqual(record.water_heights(), [2_000_000])
 
 
 class Literal(unittest.TestCase):
     """Quick forms of the rules against slow, literal ones."""
 
-    def records(self, count: int) -> Iterator[ref.Record]:
+    def records(self, count: int) -> Iterator[rules.Record]:
         """Opened records from made jobs."""
-        for job in ref.make_inputs("jobs", SEED + 1, count):
-            refusal, record = ref.open_job(job)
+        for job in makers.make_inputs("jobs", SEED + 1, count):
+            refusal, record = rules.open_job(job)
             if refusal == 0:
                 yield record
 
     def test_interpolation(self) -> None:
         for record in self.records(200):
             first, second = record.first_points(), record.second_points()
-            layer = ref.Layer(record)
+            layer = rules.Layer(record)
             for solids, water in zip(layer.solids, record.water):
-                void = ref.void_ratio(solids, water)
+                void = rules.void_ratio(solids, water)
                 for (stress_a, void_a), (stress_b, void_b) in zip(first, first[1:]):
                     if void_b <= void <= void_a:
                         share = Fraction(void_a - void, void_a - void_b)
@@ -335,8 +338,8 @@ class Literal(unittest.TestCase):
 
     def test_longest_step(self) -> None:
         for record in self.records(200):
-            layer = ref.Layer(record)
-            resistances = ref.face_resistances(layer, layer.read(record.load, record.water)[1])
+            layer = rules.Layer(record)
+            resistances = rules.face_resistances(layer, layer.read(record.load, record.water)[1])
             stiffness = max(math.ceil(Fraction(b[0] - a[0], a[1] - b[1]))
                             for a, b in zip(record.first_points(), record.first_points()[1:]))
 
@@ -345,7 +348,7 @@ class Literal(unittest.TestCase):
                 return any(face is not None and 2 * void * stiffness * seconds > face
                            for j, void in enumerate(voids) for face in resistances[j:j + 2])
 
-            longest = ref.longest_step(layer, resistances)
+            longest = rules.longest_step(layer, resistances)
             if longest is None:
                 self.assertEqual((record.elements, record.top, record.bottom), (1, None, None))
             else:
@@ -353,21 +356,21 @@ class Literal(unittest.TestCase):
                 self.assertTrue(too_long(longest + 1))
 
     def test_equilibrium_water(self) -> None:
-        chance = ref.Chance(SEED, 0)
+        chance = Chance(SEED, 0)
         missing = 0
         for _ in range(150):
             low = chance.between(1, 60_000)
             high = low + chance.scaled(1, 5_000)
-            curve = ref.Compressibility([(chance.between(0, 50), high), (chance.between(51, 200), low)])
+            curve = rules.Compressibility([(chance.between(0, 50), high), (chance.between(51, 200), low)])
             solids, stress = chance.pick([100_000, 120_007, 777_777]), chance.between(0, 200)
             found: Optional[int] = None
             for water in range(1_000):
-                void = ref.void_ratio(solids, water)
+                void = rules.void_ratio(solids, water)
                 if curve.holds(void) and curve.effective_stress(void) <= stress <= curve.stresses[-1]:
                     found = water
                     break
             missing += found is None
-            self.assertEqual(ref.equilibrium_water(curve, solids, stress), found)
+            self.assertEqual(rules.equilibrium_water(curve, solids, stress), found)
         self.assertTrue(20 < missing < 130)
 
 
@@ -376,30 +379,30 @@ class Made(unittest.TestCase):
 
     def test_every_cause_and_stop(self) -> None:
         causes, stops = set(), set()
-        for job in ref.make_inputs("jobs", SEED, 300):
-            refusal, result = ref.key(job)
+        for job in makers.make_inputs("jobs", SEED, 300):
+            refusal, result = rules.key(job)
             causes.add(refusal)
             if refusal == 0:
                 stops.add(result[5])
-                causes.add(ref.key_into(job, bytearray(len(result) - 1)))
+                causes.add(rules.key_into(job, bytearray(len(result) - 1)))
         self.assertEqual((causes, stops), (set(range(11)), {0, 1, 2, 3}))
         causes, stops = set(), set()
         for kind in ("lists", "records"):
-            for text in ref.make_inputs(kind, SEED, 150):
+            for text in makers.make_inputs(kind, SEED, 150):
                 self.check_list(text.decode(), causes, stops)
         self.assertEqual((causes, stops), ({0, 11, 12, 13, 14, 15, 16}, {0, 1, 2, 3}))
 
     def check_list(self, text: str, causes: set, stops: set) -> None:
         """Answer a list; note its causes and stops, and compare the record before and after each call."""
-        script = ref.Script()
+        script = lists.Script()
         opening = 0
         for line in text.splitlines():
-            before = script.record.copy() if script.record else ref.Record()
+            before = script.record.copy() if script.record else rules.Record()
             answers = script.answer(line)
             name = line.split(" ")[0]
             if name == "job":
                 opening = int(answers[0].split(" ")[1])
-            if name not in ref.CALLS:
+            if name not in lists.CALLS:
                 continue
             words = answers[0].split(" ")
             refusal = int(words[1])
@@ -412,7 +415,7 @@ class Made(unittest.TestCase):
                 self.assertNotEqual(refusal, 11)
             self.check_kept(before, script.record)
 
-    def check_kept(self, before: ref.Record, after: ref.Record) -> None:
+    def check_kept(self, before: rules.Record, after: rules.Record) -> None:
         """All that no call may change is as it was, places past a count included."""
         count = before.elements
         self.assertEqual(after.water[count:], before.water[count:])
@@ -425,8 +428,8 @@ class Made(unittest.TestCase):
 class Tally:
     """The rises and falls of load, and what the excess pressures may be."""
 
-    def __init__(self, record: ref.Record) -> None:
-        excess = ref.excess_pressures(record)
+    def __init__(self, record: rules.Record) -> None:
+        excess = rules.excess_pressures(record)
         held = [pressure for pressure in (record.top, record.bottom) if pressure is not None]
         self.low, self.high = min(excess + held), max(excess + held)
         self.rises = self.falls = 0
@@ -441,18 +444,18 @@ class Tally:
         self.falls += max(0, self.load - load)
         self.load = load
 
-    def faults(self, record: ref.Record) -> List[str]:
+    def faults(self, record: rules.Record) -> List[str]:
         """The claims that a record breaks."""
         found = []
         water = sum(record.water_heights())
         outflows = (record.top_outflow, record.bottom_outflow)
-        excess = ref.excess_pressures(record)
-        if not ref.is_layer(record):
+        excess = rules.excess_pressures(record)
+        if not rules.is_layer(record):
             found.append("layer")
         if record.starting_water != self.water or water + sum(outflows) != self.water:
             found.append("water")
         present = sum(record.solid_heights()) + water
-        if not ref.settlement(record) == self.height - present == sum(outflows):
+        if not rules.settlement(record) == self.height - present == sum(outflows):
             found.append("settlement")
         if min(excess) < self.low - self.falls or max(excess) > self.high + self.rises:
             found.append("excess pressure")
@@ -467,9 +470,9 @@ class Claims(unittest.TestCase):
 
     def test_lists(self) -> None:
         checked = 0
-        for text in ref.make_inputs("lists", SEED + 2, 300):
+        for text in makers.make_inputs("lists", SEED + 2, 300):
             lines = text.decode().splitlines()
-            refusal, record = ref.open_job(ref.job_of_words(lines[0].split(" ")[1:]))
+            refusal, record = rules.open_job(lists.job_of_words(lines[0].split(" ")[1:]))
             if refusal:
                 continue
             tally = Tally(record)
@@ -478,26 +481,26 @@ class Claims(unittest.TestCase):
                 checked += self.follow(record, tally, line)
         self.assertGreater(checked, 1_000)
 
-    def follow(self, record: ref.Record, tally: Tally, line: str) -> int:
+    def follow(self, record: rules.Record, tally: Tally, line: str) -> int:
         """Make a call, a run as runs of one step each, and check the claims; gives the number of checks."""
         name, *words = line.split(" ")
         numbers = [int(word) for word in words]
         if name != "run":
-            ref.answer_call(record, name, numbers)
+            lists.answer_call(record, name, numbers)
             tally.set_load(record.load)
             self.assertEqual(tally.faults(record), [], line)
             return 1
         whole = record.copy()
-        refusal, stop, steps = ref.run_call(whole, *numbers)
+        refusal, stop, steps = rules.run_call(whole, *numbers)
         stride = 1 if steps < 60 else steps // 30
         taken = 0
         while refusal == 0:
-            _, one_stop, one = ref.run_call(record, numbers[0], min(1, numbers[1] - taken))
+            _, one_stop, one = rules.run_call(record, numbers[0], min(1, numbers[1] - taken))
             tally.set_load(record.load)
             taken += one
             if taken % stride == 0 or one == 0:
                 self.assertEqual(tally.faults(record), [], line)
-            if one == 0 or one_stop != ref.BUDGET_USED:
+            if one == 0 or one_stop != rules.BUDGET_USED:
                 self.assertEqual((stop, steps), (one_stop, taken))
                 break
         self.assertEqual(record, whole)
@@ -522,17 +525,17 @@ class ThinLayer(unittest.TestCase):
     def degrees(self, count: int) -> List[float]:
         """Degree of consolidation at the time factors, for a number of elements."""
         conductivity, height = 100_000, 1_000_000_000 // count
-        job = ref.Job(top=1, bottom=0, elements=[(height, height)] * count,
-                      curve1=[(0, 100_000_000), (200_000_000, 99_800_000)],
-                      curve2=[(99_000_000, conductivity), (101_000_000, conductivity)], table=[(0, 100_000_000)])
+        job = rules.Job(top=1, bottom=0, elements=[(height, height)] * count,
+                        curve1=[(0, 100_000_000), (200_000_000, 99_800_000)],
+                        curve2=[(99_000_000, conductivity), (101_000_000, conductivity)], table=[(0, 100_000_000)])
         record = opened(job)
         compressibility = 1e-3 / 100                                  # void ratio per kPa
         rate = conductivity * 1e-15 * 2 / (compressibility * 9.81)    # m2/s
         degrees = []
         for time_factor in self.TIME_FACTORS:
-            refusal, stop, _ = ref.run_call(record, round(time_factor * 4 / rate), 1_000_000)
+            refusal, stop, _ = rules.run_call(record, round(time_factor * 4 / rate), 1_000_000)
             self.assertEqual((refusal, stop), (0, 0))
-            degrees.append(ref.settlement(record) / 1_000_000)
+            degrees.append(rules.settlement(record) / 1_000_000)
         return degrees
 
     def test_ten_elements(self) -> None:

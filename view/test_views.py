@@ -23,7 +23,7 @@ sys.path[:0] = [HERE, REFERENCE]
 import key_table  # noqa: E402
 import keys  # noqa: E402
 import plot  # noqa: E402
-import reference  # noqa: E402
+import rules  # noqa: E402
 
 SPECIMEN_TABLE = """\
 Key of specimen.job
@@ -47,7 +47,7 @@ element         mm            -                kPa            kPa             kP
 
 def reference_answer(_program: str, job: bytes) -> object:
     """What the program writes for a job, from the reference."""
-    refusal, result = reference.key(job)
+    refusal, result = rules.key(job)
     return keys.read_answer(b"refused %d\n" % refusal if refusal else result)
 
 
@@ -87,10 +87,10 @@ class Views(unittest.TestCase):
 def specimen_with(**changes: object) -> bytes:
     """The specimen with changes."""
     with open(SPECIMEN, "rb") as source:
-        job = reference.read_job(source.read())
+        job = rules.read_job(source.read())
     for name, value in changes.items():
         setattr(job, name, value)
-    return reference.job_bytes(job)
+    return rules.job_bytes(job)
 
 
 class KeyTable(Views):
