@@ -12,6 +12,7 @@ use layer::weights;
 use rules::quantities::Pressure;
 use rules::record::CurveCounts;
 use rules::record::Frame;
+use rules::record::Skeleton;
 
 // Puts excess pressures and resistances in the first places.
 pub fn read_layer<'a>(
@@ -35,23 +36,25 @@ pub fn read_layer<'a>(
     ensures { λ _. ⌜ now (excess .exit) ≡ filled (now (excess .entry)) (frame .elements) (excessAt (points (counts .compressibility) (now (void .entry)) (now (stress .entry))) (load .0) (burdensIn frame (now (solids .entry))) (now (solids .entry)) (now (water .entry))) ⌝ }
     ensures { λ _. ⌜ now (resistance .exit) ≡ filled (now (resistance .entry)) (frame .elements) (resistanceAt (points (counts .conductivity) (now («conductivity_void» .entry)) (now (conductivity .entry))) (now (solids .entry)) (now (water .entry))) ⌝ }
 {
-    let n = frame.elements;
-    let m = counts.compressibility;
-    let k = counts.conductivity;
+    let elements = frame.elements;
+    let skeleton = Skeleton {
+        points: counts.compressibility,
+    };
+    let conductivity_points = counts.conductivity;
     let mut burden = [0u64; 128];
-    weights::burdens(n, frame.gravity, solids, &mut burden);
+    weights::burdens(elements, frame.gravity, solids, &mut burden);
     let mut stress_segment = [0usize; 128];
     let mut conductivity_segment = [0usize; 128];
     read::read_elements(
-        n,
+        elements,
         load,
         &burden,
         solids,
         water,
-        m,
+        skeleton,
         void,
         stress,
-        k,
+        conductivity_points,
         conductivity_void,
         conductivity,
         &mut stress_segment,

@@ -12,8 +12,8 @@ ghost use Rattle.rules.specs.Record.{soilOf, layerOf, recordOf, isLayer};
 ghost use Rattle.rules.specs.declared.answers.Call.the-variants.{Step};
 ghost use Rattle.rules.specs.declared.record.Record.{Record};
 use crate::reading;
+use layer_step::Moved;
 use lent::state;
-use motion::Moved;
 use rules::answers::Answer;
 use rules::answers::Answered;
 use rules::answers::Refusal;
@@ -24,6 +24,7 @@ use rules::record::CurveCounts;
 use rules::record::Frame;
 use rules::record::Progress;
 use rules::record::Record;
+use rules::record::Skeleton;
 
 // What a step answers: the layer's progress after it, or a refusal.
 pub enum Stepped {
@@ -35,7 +36,7 @@ pub enum Stepped {
 pub fn step_read<'a>(
     frame: Frame,
     progress: Progress,
-    slope: u64,
+    steepness: u64,
     sensitivity: &'a [u64; 128],
     low: &'a [u64; 128],
     high: &'a [u64; 128],
@@ -44,20 +45,20 @@ pub fn step_read<'a>(
     water: &mut [u64; 128],
     t: u64,
 ) -> Stepped
-    requires { ⌜ SomeRead frame progress slope (now sensitivity) (now low) (now high) (now excess) (now resistance) (now water) ⌝ }
+    requires { ⌜ SomeRead frame progress steepness (now sensitivity) (now low) (now high) (now excess) (now resistance) (now water) ⌝ }
     requires { ⌜ (within stepLimits t ≡ true) × (within clockLimits (progress .clock .0 + t) ≡ true) ⌝ }
     requires { ⌜ length (now water) ≡ 128 ⌝ }
-    ensures { λ s. ⌜ ((r : Record) → ReadAs r frame progress slope (now (sensitivity .entry)) (now (low .entry)) (now (high .entry)) (now (excess .entry)) (now (resistance .entry)) (now (water .entry)) → stepAnswered r s (now (water .exit)) ≡ called r (Step t)) ⌝ }
+    ensures { λ s. ⌜ ((r : Record) → ReadAs r frame progress steepness (now (sensitivity .entry)) (now (low .entry)) (now (high .entry)) (now (excess .entry)) (now (resistance .entry)) (now (water .entry)) → stepAnswered r s (now (water .exit)) ≡ called r (Step t)) ⌝ }
 {
-    let n = frame.elements;
+    let elements = frame.elements;
     let top = frame.top;
     let bottom = frame.bottom;
-    if reach::too_long(n, top, bottom, slope, resistance, sensitivity, t) {
+    if step_length::too_long(elements, top, bottom, steepness, resistance, sensitivity, t) {
         return Stepped::Refused(Refusal::StepTooLong);
     }
     let mut above = [0i64; 128];
-    let moved = motion::advance(
-        n,
+    let moved = layer_step::advance(
+        elements,
         top,
         bottom,
         t,
@@ -99,10 +100,13 @@ pub fn step_lent<'a>(
     let mut sensitivity = [0u64; 128];
     let mut low = [0u64; 128];
     let mut high = [0u64; 128];
-    let slope = motion::prepare(
+    let skeleton = Skeleton {
+        points: counts.compressibility,
+    };
+    let steepness = layer_step::prepare(
         frame.elements,
         solids,
-        counts.compressibility,
+        skeleton,
         void,
         stress,
         &mut sensitivity,
@@ -127,7 +131,7 @@ pub fn step_lent<'a>(
     step_read(
         frame,
         progress,
-        slope,
+        steepness,
         &sensitivity,
         &low,
         &high,
@@ -173,10 +177,10 @@ pub fn take_step(r: Record, t: u64) -> Answered
     ensures { λ a. ⌜ a ≡ called r (Step t) ⌝ }
     ensures { λ a. ⌜ answerNumbers (a .answer) ≡ calledNumbers r (Step t) ⌝ }
 {
-    if !sound::record::is_layer(r) {
+    if !layer_test::record::is_layer(r) {
         return state::refused(r, Refusal::NoLayer);
     }
-    if !Seconds::holds(t) {
+    if !Seconds::within(t) {
         return state::refused(r, Refusal::StepOutside);
     }
     let clock = r.layer.progress.clock;

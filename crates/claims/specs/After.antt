@@ -12,8 +12,8 @@ use Rattle.claims.specs.Courses.{tallied-solids, course-tallied, course-
 use Rattle.claims.specs.Excesses.{AllExcess, Bounded, first-within, events-bounded}
 use Rattle.claims.specs.Extremes.{every-image, bounding}
 use Rattle.claims.specs.Kept.{SoundSite, Kept}
-use Rattle.claims.specs.Outflows.{NotNegative, NotLowered, events-not-lowered, level-zero}
-use Rattle.claims.specs.Pressures.{pressures, lowest, highest}
+use Rattle.claims.specs.Outflows.{events-not-lowered, level-zero}
+use Rattle.claims.specs.Pressures.{pressures, lowest, highest, NotNegative, NotLowered}
 use Rattle.claims.specs.Replay.{Follows, follows}
 use Rattle.claims.specs.Stands.{Stands, site-sound}
 use Rattle.laws.specs.Amid.{Between}

@@ -15,13 +15,13 @@ use Rattle.numbers.specs.Integers.{eqℤ}
 use Rattle.numbers.specs.Lists.{all}
 use Rattle.numbers.specs.Searches.{passed, is-true, both}
 use Rattle.rules.specs.Curve.{compressibilitySound, conductivitySound}
-use Rattle.rules.specs.Job.{Description, field, described, numberedFace, frameOf, jobSite, givenWater, fieldsSound, headerKept, jobCauses}
+use Rattle.rules.specs.Job.{Description, field, described, numberedFace, frameOf, jobSite, givenWater, fieldsSound, headerSound, jobCauses}
 use Rattle.rules.specs.Layer.{topPressure}
 use Rattle.rules.specs.Load.{tableSound}
 use Rattle.rules.specs.Quantities.{within, clockLimits, budgetLimits, flagLimits, elementLimits, curveLimits, tableLimits, gravityLimits, startingWaterLimits}
 use Rattle.numbers.specs.Sums.{sum}
 use Rattle.rules.specs.Opening.{openedRecord}
-use Rattle.rules.specs.Record.{headerSound, faceNumber, sizesSound, faceHolds, recordSite}
+use Rattle.rules.specs.Record.{formSound, faceNumber, sizesSound, faceHolds, recordSite}
 use Rattle.rules.specs.Refusals.{firstCause}
 use Rattle.rules.specs.declared.job.Header.{Header}
 use Rattle.rules.specs.declared.quantities.Pressure.{Pressure}
@@ -29,7 +29,7 @@ use Rattle.rules.proofs.Limits.{inside}
 
 -- a job's description meets the tests of a layer
 pub record Described (d : Description) : Type 0 where
-  pub header : headerKept d.header ≡ true
+  pub header : headerSound d.header ≡ true
   pub fields : fieldsSound d ≡ true
   pub compressibility : compressibilitySound ((jobSite d) .compressibility) ≡ true
   pub conductivity : conductivitySound ((jobSite d) .conductivity) ((jobSite d) .compressibility) ≡ true
@@ -43,7 +43,7 @@ described-sound job e =
     let true-of : (b : Bool) → T (not (not b)) → b ≡ true = λ b t. is-true b (twice-not b t) in
     let later = held .1 .1 in
     record {
-      header = true-of (headerKept d.header) (neither (not (headerKept d.header)) (not (eqb (field 2 14 job) 0)) (held .0) .0);
+      header = true-of (headerSound d.header) (neither (not (headerSound d.header)) (not (eqb (field 2 14 job) 0)) (held .0) .0);
       fields = true-of (fieldsSound d) (later .0);
       compressibility = true-of (compressibilitySound ((jobSite d) .compressibility)) (later .1 .0);
       conductivity = true-of (conductivitySound ((jobSite d) .conductivity) ((jobSite d) .compressibility)) (later .1 .1 .0);
@@ -65,10 +65,10 @@ face-holds zero held = refl
 face-holds (suc n) held = rw (eqb·suc-zero n, numberedFace) (is-true (eqℤ (held .0) (held .0)) (eqℤ-refl (held .0)))
 
 -- the header of the record, whose faces are numbered anew and which has no start
-header-again : (h : Header) (held held′ : Pressure) → headerKept h ≡ true →
-    headerSound (faceNumber (numberedFace h.top held)) (faceNumber (numberedFace h.bottom held′)) h.elements (h .«compressibility_points»)
+header-again : (h : Header) (held held′ : Pressure) → headerSound h ≡ true →
+    formSound (faceNumber (numberedFace h.top held)) (faceNumber (numberedFace h.bottom held′)) h.elements (h .«compressibility_points»)
     (h .«conductivity_points») (h .«table_points») 0 h.gravity ≡ true
-unfolding headerSound
+unfolding formSound
 header-again h held held′ e =
     let s = kept-header h e in
     rw (

@@ -23,7 +23,7 @@ use Rattle.rules.specs.Curve.{Point, compressibilitySound, conductivitySound}
 use Rattle.rules.specs.Layer.{Site, State, skeletonOf, effectiveStress, topPressure, bottomPressure}
 use Rattle.rules.specs.Load.{tableSound}
 use Rattle.rules.specs.Quantities.{within, withinℤ, levelLimits, solidsLimits, waterLimits, stressLimits, clockLimits, startingWaterLimits, outflowRate}
-use Rattle.rules.specs.Record.{headerSound, faceNumber, closedAtZero, sizesSound, faceHolds, outflowSound, isLayer}
+use Rattle.rules.specs.Record.{formSound, faceNumber, closedAtZero, sizesSound, faceHolds, outflowWithin, isLayer}
 use Rattle.rules.specs.Record.{recordSite, recordState, withState, withEvents}
 use Rattle.rules.specs.Run.{Event, afterEvents}
 use Rattle.rules.specs.Step.{onCurve, allOnCurve}
@@ -40,7 +40,7 @@ use Rattle.laws.specs.StateFacts.{state-by}
 -- the tests of a layer that no call changes
 pub record Fixed (r : Record) : Type 0 where
   pub header :
-      headerSound (faceNumber (r .layer .frame .top)) (faceNumber (r .layer .frame .bottom)) (r .layer .frame .elements) (r .soil .counts .compressibility) (r .soil .counts .conductivity)
+      formSound (faceNumber (r .layer .frame .top)) (faceNumber (r .layer .frame .bottom)) (r .layer .frame .elements) (r .soil .counts .compressibility) (r .soil .counts .conductivity)
       (r .layer .frame .«table_points») 0 (r .layer .frame .gravity) ≡ true
   pub sizes : sizesSound (recordSite r) [] ≡ true
   pub compressibility : compressibilitySound ((recordSite r) .compressibility) ≡ true
@@ -111,8 +111,8 @@ water-limited curve (S ∷ Ss) (W ∷ Ws) sound solid small n t =
       water-limited curve Ss Ws sound (solid .1) (small .1) (omega arith) more,
     )
 
-outflow-kept : (outflow : ℤ) (clock : ℕ) → Within outflow (outflowRate * clock) → outflowSound outflow clock ≡ true
-unfolding outflowSound
+outflow-kept : (outflow : ℤ) (clock : ℕ) → Within outflow (outflowRate * clock) → outflowWithin outflow clock ≡ true
+unfolding outflowWithin
 outflow-kept outflow clock w = is-true _ (le→leb (natAbs outflow) (outflowRate * clock) (w .bound))
 
 module _ (r : Record) (f : Fixed r) (k : Kept (recordSite r) (r .layer .frame .«starting_water») (recordState r)) where

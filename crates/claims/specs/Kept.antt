@@ -24,7 +24,7 @@ use Rattle.rules.specs.Load.{tableSound, withLoad}
 use Rattle.rules.specs.Quantities.{clockLimits, solidsLimits, gravityLimits, elementLimits, outflowRate, mostHeadPressure}
 use Rattle.rules.specs.Run.{Event, loadSet, stepTaken, afterEvent, afterEvents}
 use Rattle.numbers.specs.Lists.{paired}
-use Rattle.rules.specs.Step.{stressSlope, upwardFlows, moved, newHeight, stepped, onCurve, allOnCurve}
+use Rattle.rules.specs.Step.{siteSteepness, upwardFlows, moved, newHeight, stepped, onCurve, allOnCurve}
 use Rattle.rules.specs.declared.quantities.Face.{Face}
 use Rattle.rules.specs.declared.quantities.Face.the-variants.{Closed, Drained}
 
@@ -91,7 +91,7 @@ module _ (site : Site) (sound : SoundSite site) (start : ℕ) where
   }
 
   step-keeps : (t : ℕ) (s : State) → StepAccepted site s t → Kept site start s → Kept site start (stepped site t s)
-  unfolding stepped stressSlope
+  unfolding stepped siteSteepness
   step-keeps t s a k =
       let (enters, leaves) =
       outflow-within site s t (a .least) (steep-positive site.compressibility (sound .falls) (sound .two)) (sound .solid)

@@ -19,7 +19,8 @@ use Rattle.numbers.specs.Filled.{first-length}
 use Rattle.numbers.specs.Interval.{within-pos, within-le}
 use Rattle.numbers.specs.Sums.{sum, sum-le}
 use Rattle.rules.specs.Job.{Description, described, frameOf, jobSite, givenWater, jobCauses}
-use Rattle.rules.specs.Layer.{Site, skeleton}
+use Rattle.laws.specs.Lengths.{burdens-length}
+use Rattle.rules.specs.Layer.{Site, skeleton, burdens}
 use Rattle.rules.specs.Opening.{openedRecord, refusedOpening, descriptionWater, opening}
 use Rattle.rules.specs.Quantities.{startingWaterLimits, waterLimits}
 use Rattle.rules.specs.Record.{recordSite, recordState}
@@ -102,7 +103,9 @@ module _ (d : Description) (s : Described d) (water : List ℕ) (starts : descri
 
   on : Starts (skeleton site) (site .solids) water
   unfolding descriptionWater
-  on = water-starts site (openingLoad site) d.header.start (givenWater d) water (given-many ∙ sym solids-many) starts
+  on =
+      water-starts (skeleton site) (openingLoad site) (burdens (site .gravity) (site .solids)) (site .solids) d.header.start (givenWater d) water
+      (burdens-length (site .gravity) (site .solids)) (given-many ∙ sym solids-many) starts
 
   -- the starting water is within its limits
   few : sum water ≤ startingWaterLimits .most

@@ -19,23 +19,16 @@ use Rattle.numbers.specs.Lists.{firstOr, lastOr}
 use Rattle.numbers.specs.Signed.{signed, add-parts, sub-parts, up-neg, down-neg}
 use Rattle.rules.specs.Layer.{Site, State, Element, elements, bottomPressure}
 use Rattle.rules.specs.Quantities.{pressureOf}
+use Rattle.claims.specs.Pressures.{NotNegative, NotLowered}
 use Rattle.rules.specs.Run.{Event, loadSet, stepTaken, afterEvent}
-use Rattle.rules.specs.Step.{outward, upward, flowsAbove, upwardFlows, stepped, stressSlope}
+use Rattle.rules.specs.Step.{outward, upward, flowsAbove, upwardFlows, stepped, siteSteepness}
 use Rattle.rules.specs.Tally.{Tally, recorded, tallied, StepTrace, stepTraces}
 use Rattle.rules.specs.declared.quantities.Face.{Face}
 use Rattle.rules.specs.declared.quantities.Face.the-variants.{Closed, Drained}
 
--- a pressure that is not negative, and a face that holds 0
-abbrev pub NotNegative : ℤ → Type 0
-NotNegative p = pos 0 ≤ℤ p
-
+-- a face holds 0
 abbrev pub HoldsZero : Face → Type 0
 HoldsZero = Holds (λ p. p ≡ pos 0)
-
--- a step lowered neither outflow
-abbrev pub NotLowered : StepTrace → Type 0
-NotLowered step =
-    ((step .before .topOutflow) ≤ℤ (step .later .topOutflow)) × ((step .before .bottomOutflow) ≤ℤ (step .later .bottomOutflow))
 
 -- ---- one step
 
@@ -80,7 +73,7 @@ module _ (site : Site) (sound : SoundSite site) (start : ℕ) (below : HoldsZero
 
   step-not-negative : (t : ℕ) (s : State) → StepAccepted site s t → Kept site start s → AllExcess site NotNegative s →
       AllExcess site NotNegative (stepped site t s)
-  unfolding stressSlope
+  unfolding siteSteepness
   step-not-negative t s a k p =
       spread site (at-least (pos 0)) (stress-fall site.compressibility (sound .falls)) t s (sound .solid) (holds-none site.top (sound .top-holds))
       (holds-none site.bottom below) p (k .on-curve) (a .short) (a .stays)

@@ -9,12 +9,12 @@ use mathlib.Core.List.{List, [], _∷_, map}
 use mathlib.Core.Option.{Option, none, some}
 use mathlib.Core.Path.{_≡_, refl, ap, subst}
 use Rattle.claims.specs.Causes.{none-some}
-use Rattle.laws.specs.Lengths.{burdens-length}
 use Rattle.numbers.specs.Lists.{least}
 use Rattle.numbers.specs.Searches.{passed, joined}
-use Rattle.rules.specs.Layer.{Site, Skeleton, skeleton, effectiveStress, burdens}
+use Rattle.rules.specs.Layer.{Skeleton, effectiveStress}
 use Rattle.rules.specs.Quantities.{waterLimits}
-use Rattle.rules.specs.Start.{atMost, restingWater, lastStress, prepended, restingFrom, startWater}
+use Rattle.numbers.specs.Lists.{prepended}
+use Rattle.rules.specs.Start.{atMost, restingWater, lastStress, restingUnder, restingFrom, startWater}
 use Rattle.rules.specs.Step.{onCurve, allOnCurve}
 use Rattle.rules.proofs.Resting.{at-most-parts}
 
@@ -41,23 +41,29 @@ resting-on soil S stress W e =
     at-most-parts (effectiveStress soil S W) stress
     (least-passes (λ U. atMost (effectiveStress soil S U) stress) (suc (waterLimits .most)) 0 W e) .0
 
-module _ (site : Site) (load : ℕ) where
-  abbrev soil : Skeleton
-  soil = skeleton site
+module _ (soil : Skeleton) (load : ℕ) where
+  -- so is that of an element under load + B
+  under-on : (B S W : ℕ) → restingUnder soil load B S ≡ some W → T (onCurve soil S (pos W))
+  unfolding restingUnder
+  under-on B S W e = go (leb (load + B) (lastStress soil.compressibility)) e
+    where
+      go : (c : Bool) → elim c as (λ _. Option ℕ) [ true ↦ restingWater soil S (load + B) | false ↦ none ] ≡ some W → T (onCurve soil S (pos W))
+      go true e = resting-on soil S (load + B) W e
+      go false e = absurd (none-some W e)
 
   -- water at rest is
-  resting-starts : (Bs Ss water : List ℕ) → length Bs ≡ length Ss → restingFrom site load Bs Ss ≡ some water → Starts soil Ss water
+  resting-starts : (Bs Ss water : List ℕ) → length Bs ≡ length Ss → restingFrom soil load Bs Ss ≡ some water → Starts soil Ss water
   unfolding restingFrom allOnCurve prepended
   resting-starts [] [] water n e = let same : [] ≡ water = cc in subst (Starts soil []) same (record { size = refl; on-curve = tt })
   resting-starts [] (S ∷ Ss) water n e = absurd (omega arith)
   resting-starts (B ∷ Bs) [] water n e = absurd (omega arith)
   resting-starts (B ∷ Bs) (S ∷ Ss) water n e =
-      under (leb (load + B) (lastStress site.compressibility)) e (λ more. resting-starts Bs Ss more (omega arith))
+      each (restingUnder soil load B S) (restingFrom soil load Bs Ss) refl refl e (λ more. resting-starts Bs Ss more (omega arith))
     where
       Later : Type 0
-      Later = (more : List ℕ) → restingFrom site load Bs Ss ≡ some more → Starts soil Ss more
+      Later = (more : List ℕ) → restingFrom soil load Bs Ss ≡ some more → Starts soil Ss more
 
-      each : (o : Option ℕ) (rest : Option (List ℕ)) → restingWater soil S (load + B) ≡ o → restingFrom site load Bs Ss ≡ rest →
+      each : (o : Option ℕ) (rest : Option (List ℕ)) → restingUnder soil load B S ≡ o → restingFrom soil load Bs Ss ≡ rest →
           prepended o rest ≡ some water → Later → Starts soil (S ∷ Ss) water
       each none rest p q e later = absurd (none-some water e)
       each (some W) none p q e later = absurd (none-some water e)
@@ -67,30 +73,23 @@ module _ (site : Site) (load : ℕ) where
           subst (Starts soil (S ∷ Ss)) same (record {
             size = ap suc (rest .size);
             on-curve =
-                joined (onCurve soil S (pos W)) (allOnCurve soil Ss (map pos more)) (resting-on soil S (load + B) W p) (rest .on-curve);
+                joined (onCurve soil S (pos W)) (allOnCurve soil Ss (map pos more)) (under-on B S W p) (rest .on-curve);
           })
 
-      under : (c : Bool) → elim c as (λ _. Option (List ℕ)) [
-        | true ↦ prepended (restingWater soil S (load + B)) (restingFrom site load Bs Ss)
-        | false ↦ none
-      ] ≡ some water → Later → Starts soil (S ∷ Ss) water
-      under true e later = each (restingWater soil S (load + B)) (restingFrom site load Bs Ss) refl refl e later
-      under false e later = absurd (none-some water e)
-
   -- the water of either start is
-  pub water-starts : (start : ℕ) (given water : List ℕ) → length given ≡ length site.solids →
-      startWater site start given load ≡ some water → Starts soil site.solids water
+  pub water-starts : (Bs Ss : List ℕ) (start : ℕ) (given water : List ℕ) → length Bs ≡ length Ss → length given ≡ length Ss →
+      startWater soil Bs Ss start given load ≡ some water → Starts soil Ss water
   unfolding startWater
-  water-starts start given water n e = either (eqb start 0) e
+  water-starts Bs Ss start given water many n e = either (eqb start 0) e
     where
-      on : (c : Bool) → allOnCurve soil site.solids (map pos given) ≡ c →
-          elim c as (λ _. Option (List ℕ)) [ true ↦ some given | false ↦ none ] ≡ some water → Starts soil site.solids water
-      on true p e = let same : given ≡ water = cc in subst (Starts soil site.solids) same (record { size = n; on-curve = passed p })
+      on : (c : Bool) → allOnCurve soil Ss (map pos given) ≡ c →
+          elim c as (λ _. Option (List ℕ)) [ true ↦ some given | false ↦ none ] ≡ some water → Starts soil Ss water
+      on true p e = let same : given ≡ water = cc in subst (Starts soil Ss) same (record { size = n; on-curve = passed p })
       on false p e = absurd (none-some water e)
 
       either : (c : Bool) → elim c as (λ _. Option (List ℕ)) [
-        | true ↦ elim (allOnCurve soil site.solids (map pos given)) [ true ↦ some given | false ↦ none ]
-        | false ↦ restingFrom site load (burdens site.gravity site.solids) site.solids
-      ] ≡ some water → Starts soil site.solids water
-      either true e = on (allOnCurve soil site.solids (map pos given)) refl e
-      either false e = resting-starts (burdens site.gravity site.solids) site.solids water (burdens-length site.gravity site.solids) e
+        | true ↦ elim (allOnCurve soil Ss (map pos given)) [ true ↦ some given | false ↦ none ]
+        | false ↦ restingFrom soil load Bs Ss
+      ] ≡ some water → Starts soil Ss water
+      either true e = on (allOnCurve soil Ss (map pos given)) refl e
+      either false e = resting-starts Bs Ss water many e

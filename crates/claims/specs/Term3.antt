@@ -1,12 +1,10 @@
 -- Term 3: what holds after every list of calls, each given the record as the one before left it, on every job that opening accepts.
 use Prim.Native.Nat.{ℕ}
 use lib.IntN.{pos, _+ℤ_, _-ℤ_}
-use lib.Signed.{_≤ℤ_}
 use mathlib.Core.List.{List}
-use mathlib.Core.Logic.{_⊎_}
 use mathlib.Core.Option.{some}
 use mathlib.Core.Path.{_≡_}
-use Rattle.claims.specs.Pressures.{pressures, lowest, highest}
+use Rattle.claims.specs.Pressures.{leastExcess, greatestExcess, NeverFell, NotNegative, NoHeadBelow, NotLowered}
 use Rattle.laws.specs.Amid.{Between}
 use Rattle.laws.specs.Every.{Every}
 use Rattle.rules.specs.Calls.{replayed}
@@ -15,12 +13,11 @@ use Rattle.rules.specs.Layer.{Site}
 use Rattle.rules.specs.Opening.{opening, descriptionWater}
 use Rattle.rules.specs.Record.{recordSite, recordState}
 use Rattle.rules.specs.Result.{settlement}
-use Rattle.rules.specs.Tally.{Tally, begun, Course, course, excesses, waterLeft, layerHeight, stepTraces}
+use Rattle.rules.specs.Tally.{Tally, begun, tallySite, Course, course, excesses, waterLeft, layerHeight, stepTraces}
 use Rattle.rules.specs.declared.answers.Answer.{Answer}
 use Rattle.rules.specs.declared.answers.Answer.the-variants.{Done, Refused}
 use Rattle.rules.specs.declared.answers.Call.{Call}
 use Rattle.rules.specs.declared.answers.Refusal.the-variants.{NoLayer}
-use Rattle.rules.specs.declared.quantities.Face.the-variants.{Closed}
 use Rattle.rules.specs.declared.record.Record.{Record}
 -- the proof
 use Rattle.claims.specs.After as after
@@ -47,18 +44,14 @@ pub record Term3 (site : Site) (first : Tally) (c : Course) (answers : List Answ
   -- Every excess lies between the least and the greatest of the starting excesses and the drained faces' values, less all falls of
   -- load below and plus all rises above.
   pub excesses-stay-between :
-      let least = lowest (pressures site (first .state)) in
-      let greatest = highest (pressures site (first .state)) in
-      Every (Between (least -ℤ pos (c .tally .falls)) (greatest +ℤ pos (c .tally .rises))) (excesses (recordSite r) (recordState r))
+      let own = tallySite site first in
+      Every (Between (leastExcess own first (c .tally)) (greatestExcess own first (c .tally))) (excesses (recordSite r) (recordState r))
   -- If the load never fell, no starting excess was negative, and the bottom is closed or at the top's level, no step, a run's own
   -- included, lowered either outflow.
   pub no-step-lowers-an-outflow :
-      c .tally .falls ≡ 0 → Every (λ p. pos 0 ≤ℤ p) (excesses site (first .state)) →
-      (site.bottom ≡ Closed) ⊎ (site.bottomLevel ≡ site.topLevel) →
-      Every
-      (λ step.
-      ((step .before .topOutflow) ≤ℤ (step .later .topOutflow)) × ((step .before .bottomOutflow) ≤ℤ (step .later .bottomOutflow)))
-      (stepTraces site (c .events) (first .state))
+      let own = tallySite site first in
+      NeverFell (c .tally) → Every NotNegative (excesses own (first .state)) → NoHeadBelow site →
+      Every NotLowered (stepTraces own (c .events) (first .state))
 
 -- Every job that opening accepts has the water of its start, and with it the tally of which term 3 speaks.
 pub term3 : (job : List ℕ) (calls : List Call) → (opening job) .answer ≡ Done →
@@ -66,6 +59,7 @@ pub term3 : (job : List ℕ) (calls : List Call) → (opening job) .answer ≡ D
     let replay = replayed ((opening job) .after) calls in
     (water : List ℕ) × (descriptionWater (described job) ≡ some water) ×
     Term3 site (begun site water) (course site calls (begun site water)) (replay .answers) (replay .after)
+unfolding tallySite begun
 term3 job calls accepted =
     let site = jobSite (described job) in
     let o = opened job accepted in

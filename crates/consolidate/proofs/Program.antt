@@ -24,7 +24,7 @@ use Rattle.rules.specs.Opening.{refusedOpening, opening}
 use Rattle.rules.specs.Program.{digits, refusedLine, inputMost, programOutput}
 use Rattle.rules.specs.Quantities.{elementLimits}
 use Rattle.rules.specs.Refusals.{refusalNumber}
-use Rattle.rules.specs.Result.{Returned, withheld, resultSize}
+use Rattle.rules.specs.Result.{Returned, refusedResult, resultSize}
 use Rattle.rules.specs.declared.answers.Answer.the-variants.{Done}
 use Rattle.rules.specs.declared.answers.Answered.{Answered}
 
@@ -33,7 +33,7 @@ use Rattle.rules.specs.declared.answers.Answered.{Answered}
 module _ (job buffer : List ℕ) (e : (key job buffer) .number ≡ 0) where
   -- opening accepted it
   accepted : (opening job) .answer ≡ Done
-  unfolding withheld refusedOpening
+  unfolding refusedResult refusedOpening
   accepted =
       ⊎-elim
       (λ (cause, is).
@@ -113,7 +113,7 @@ module _ (job buffer : List ℕ) (short : length job ≤ inputMost) (blank : buf
       (last ≡ overlaid (refusedLine number) out) × (size ≡ length (refusedLine number)) →
       (last ≡ overlaid (programOutput job) buffer) × (size ≡ length (programOutput job))
   refusal-written last size h line =
-      let left : out ≡ buffer = out-is ∙ key-leaves job buffer .withheld-whole (rw number-is at h) in
+      let left : out ≡ buffer = out-is ∙ key-leaves job buffer .refused-whole (rw number-is at h) in
       (line .0 ∙ rw (refusal-is h, left) refl, line .1 ∙ ap length (refusal-is h))
 
 -- what is written fits where it is written

@@ -35,13 +35,13 @@ pub fn interpolated(x0: u64, y0: u64, x1: u64, y1: u64, x: u64) -> u64
 }
 
 // What the curve gives at x, by the first segment that spans it.
-pub fn read_from_first<'a>(n: usize, xs: &'a [u64; 64], ys: &'a [u64; 64], x: u64) -> Found
-    requires { ⌜ (curveLimits .least ≤ n) × (n ≤ curveLimits .most) ⌝ }
-    requires { ⌜ Smooth n (now xs) (now ys) ⌝ }
-    ensures { λ r. ⌜ (r .value ≡ curveAt (points n (now (xs .entry)) (now (ys .entry))) x) × (r .segment + 1 < n) ⌝ }
+pub fn read_from_first<'a>(count: usize, xs: &'a [u64; 64], ys: &'a [u64; 64], x: u64) -> Found
+    requires { ⌜ (curveLimits .least ≤ count) × (count ≤ curveLimits .most) ⌝ }
+    requires { ⌜ Smooth count (now xs) (now ys) ⌝ }
+    ensures { λ r. ⌜ (r .value ≡ curveAt (points count (now (xs .entry)) (now (ys .entry))) x) × (r .segment + 1 < count) ⌝ }
 {
     let mut i: usize = 0;
-    while i + 1 < n {
+    while i + 1 < count {
         if spans(xs[i], xs[i + 1], x) {
             return Found {
                 value: CurveValue::On(interpolated(xs[i], ys[i], xs[i + 1], ys[i + 1], x)),
@@ -57,12 +57,12 @@ pub fn read_from_first<'a>(n: usize, xs: &'a [u64; 64], ys: &'a [u64; 64], x: u6
 }
 
 // What the curve gives at x, whatever segment the hint names.
-pub fn read<'a>(n: usize, xs: &'a [u64; 64], ys: &'a [u64; 64], x: u64, hint: usize) -> Found
-    requires { ⌜ (curveLimits .least ≤ n) × (n ≤ curveLimits .most) ⌝ }
-    requires { ⌜ Smooth n (now xs) (now ys) ⌝ }
-    ensures { λ r. ⌜ (r .value ≡ curveAt (points n (now (xs .entry)) (now (ys .entry))) x) × (r .segment + 1 < n) ⌝ }
+pub fn read<'a>(count: usize, xs: &'a [u64; 64], ys: &'a [u64; 64], x: u64, hint: usize) -> Found
+    requires { ⌜ (curveLimits .least ≤ count) × (count ≤ curveLimits .most) ⌝ }
+    requires { ⌜ Smooth count (now xs) (now ys) ⌝ }
+    ensures { λ r. ⌜ (r .value ≡ curveAt (points count (now (xs .entry)) (now (ys .entry))) x) × (r .segment + 1 < count) ⌝ }
 {
-    if hint < n - 1 {
+    if hint < count - 1 {
         if spans(xs[hint], xs[hint + 1], x) {
             return Found {
                 value: CurveValue::On(interpolated(
@@ -76,7 +76,7 @@ pub fn read<'a>(n: usize, xs: &'a [u64; 64], ys: &'a [u64; 64], x: u64, hint: us
             };
         }
     }
-    read_from_first(n, xs, ys, x)
+    read_from_first(count, xs, ys, x)
 }
 
 // The value on the curve, 0 off it.

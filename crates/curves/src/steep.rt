@@ -3,7 +3,7 @@ ghost use mathlib.Core.Bool.{true};
 ghost use mathlib.Core.Path.{_≡_};
 ghost use Prim.Native.Nat.{_+_, _-_, _≤_, _<_};
 ghost use Rattle.numbers.specs.Rounding.{ceil};
-ghost use Rattle.rules.specs.Curve.{points, compressibilitySound, steepness};
+ghost use Rattle.rules.specs.Curve.{points, compressibilitySound, curveSteepness};
 ghost use Rattle.rules.specs.Quantities.{stressLimits, voidLimits, curveLimits};
 
 // The steepness of one segment.
@@ -16,14 +16,14 @@ pub fn segment_steepness(void0: u64, stress0: u64, void1: u64, stress1: u64) -> 
 }
 
 // The steepness of the whole curve.
-pub fn steepness<'a>(n: usize, void: &'a [u64; 64], stress: &'a [u64; 64]) -> u64
-    requires { ⌜ n ≤ curveLimits .most ⌝ }
-    requires { ⌜ compressibilitySound (points n (now void) (now stress)) ≡ true ⌝ }
-    ensures { λ r. ⌜ r ≡ steepness (points n (now (void .entry)) (now (stress .entry))) ⌝ }
+pub fn curve_steepness<'a>(count: usize, void: &'a [u64; 64], stress: &'a [u64; 64]) -> u64
+    requires { ⌜ count ≤ curveLimits .most ⌝ }
+    requires { ⌜ compressibilitySound (points count (now void) (now stress)) ≡ true ⌝ }
+    ensures { λ r. ⌜ r ≡ curveSteepness (points count (now (void .entry)) (now (stress .entry))) ⌝ }
 {
     let mut most: u64 = 0;
     let mut i: usize = 0;
-    while i + 1 < n {
+    while i + 1 < count {
         let one = segment_steepness(void[i], stress[i], void[i + 1], stress[i + 1]);
         most = numbers::greater(most, one);
         i += 1;

@@ -17,6 +17,7 @@ use curves::reading::Found;
 use rules::quantities::Face;
 use rules::quantities::Pressure;
 use rules::quantities::Void;
+use rules::record::Skeleton;
 
 // A metre in nanometres.
 const METRE: u64 = 1_000_000_000;
@@ -33,17 +34,18 @@ pub fn void_ratio(solids: u64, water: u64) -> u64
 pub fn effective_stress<'a>(
     solids: u64,
     water: u64,
-    m: usize,
+    skeleton: Skeleton,
     void: &'a [u64; 64],
     stress: &'a [u64; 64],
     hint: usize,
 ) -> Found
     requires { ⌜ (0 < solids) × (water ≤ waterLimits .most) ⌝ }
-    requires { ⌜ (curveLimits .least ≤ m) × (m ≤ curveLimits .most) ⌝ }
-    requires { ⌜ compressibilitySound (points m (now void) (now stress)) ≡ true ⌝ }
-    ensures { λ r. ⌜ (r .value ≡ effectiveStress (skeletonOf (points m (now (void .entry)) (now (stress .entry)))) solids water) × (r .segment + 1 < m) ⌝ }
+    requires { ⌜ (curveLimits .least ≤ (skeleton .points)) × ((skeleton .points) ≤ curveLimits .most) ⌝ }
+    requires { ⌜ compressibilitySound (points (skeleton .points) (now void) (now stress)) ≡ true ⌝ }
+    ensures { λ r. ⌜ (r .value ≡ effectiveStress (skeletonOf (points (skeleton .points) (now (void .entry)) (now (stress .entry)))) solids water) × (r .segment + 1 < (skeleton .points)) ⌝ }
 {
-    reading::read(m, void, stress, void_ratio(solids, water), hint)
+    let ratio = void_ratio(solids, water);
+    reading::read(skeleton.points, void, stress, ratio, hint)
 }
 
 // b, with specific gravity in thousandths.

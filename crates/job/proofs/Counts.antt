@@ -3,7 +3,7 @@ use Prim.Native.Nat.{ℕ, _+_, _*_, _≤_}
 use mathlib.Core.Bool.{true}
 use mathlib.Core.Path.{_≡_}
 use Rattle.laws.specs.SoundHeader.{kept-header}
-use Rattle.rules.specs.Job.{headerKept, jobLength}
+use Rattle.rules.specs.Job.{headerSound, jobLength}
 use Rattle.rules.specs.Quantities.{elementLimits, curveLimits, tableLimits}
 use Rattle.rules.specs.declared.job.Header.{Header}
 
@@ -15,7 +15,7 @@ pub record Counted (elements compressibilityPoints conductivityPoints tablePoint
   pub table-most : tablePoints ≤ tableLimits .most
   pub whole : size ≡ 48 + 16 * (elements + compressibilityPoints + conductivityPoints + tablePoints)
 
-pub counted : (h : Header) (size : ℕ) → headerKept h ≡ true → size ≡ jobLength h →
+pub counted : (h : Header) (size : ℕ) → headerSound h ≡ true → size ≡ jobLength h →
     Counted h.elements (h .«compressibility_points») (h .«conductivity_points») (h .«table_points») size
 unfolding jobLength
 counted h size kept e =

@@ -12,7 +12,7 @@ use Rattle.job.specs.FirstCause.{first-earlier, first-later}
 use Rattle.job.specs.Framing.{framing}
 use Rattle.job.specs.declared.framing.Framed.{Framed}
 use Rattle.job.specs.declared.framing.Framed.the-variants.{Sound, Refused}
-use Rattle.rules.specs.Job.{described, field, headerKept, headerLength, framingCauses, describedCauses, jobCauses, jobLength, marked}
+use Rattle.rules.specs.Job.{described, field, headerSound, headerLength, framingCauses, describedCauses, jobCauses, jobLength, marked}
 use Rattle.rules.specs.Refusals.{_if_, firstCause}
 use Rattle.rules.specs.declared.answers.Refusal.{Refusal}
 use Rattle.rules.specs.declared.job.Header.{Header}
@@ -76,7 +76,7 @@ module _ (job : List ℕ) where
   header = (described job) .header
 
   abbrev pub isOutside : Bool
-  isOutside = not (headerKept header) || not (eqb (field 2 14 job) 0)
+  isOutside = not (headerSound header) || not (eqb (field 2 14 job) 0)
 
   abbrev pub isWrong : Bool
   isWrong = not (eqb (length job) (jobLength header))
@@ -89,8 +89,8 @@ module _ (job : List ℕ) where
   pub long : isShort ≡ false → headerLength ≤ length job
   long e = ltb-false _ _ (neither _ _ e .0)
 
-  pub kept : isOutside ≡ false → headerKept header ≡ true
-  kept e = not-false _ (neither (not (headerKept header)) _ e .0)
+  pub kept : isOutside ≡ false → headerSound header ≡ true
+  kept e = not-false _ (neither (not (headerSound header)) _ e .0)
 
   -- where none of them holds, the header is the job's, its numbers keep their limits and the length is theirs
   module _ (h : Header) (e : framing job ≡ Sound h) where
@@ -100,7 +100,7 @@ module _ (job : List ℕ) where
     pub framed-header : h ≡ (described job) .header
     framed-header = sym (tests .4)
 
-    pub framed-kept : headerKept header ≡ true
+    pub framed-kept : headerSound header ≡ true
     framed-kept = kept (tests .2)
 
     pub framed-length : length job ≡ jobLength header

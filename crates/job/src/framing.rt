@@ -5,7 +5,7 @@ ghost use mathlib.Core.Bool.{true, not, _||_};
 ghost use mathlib.Core.Path.{_≡_};
 ghost use Prim.Native.Nat.{_≤_};
 ghost use Rattle.job.specs.Framing.{framing};
-ghost use Rattle.rules.specs.Job.{field, headerKept, headerLength, jobLength, marked};
+ghost use Rattle.rules.specs.Job.{field, headerSound, headerLength, jobLength, marked};
 use crate::fields;
 use crate::fields::HEADER_LENGTH;
 use crate::header;
@@ -36,14 +36,14 @@ pub fn other_version(job: &[u8]) -> bool
 // Cause 3.
 pub fn header_outside(job: &[u8], header: Header) -> bool
     requires { ⌜ headerLength ≤ length (now job) ⌝ }
-    ensures { λ r. ⌜ r ≡ (not (headerKept header) || not (eqb (field 2 14 (now (job .entry))) 0)) ⌝ }
+    ensures { λ r. ⌜ r ≡ (not (headerSound header) || not (eqb (field 2 14 (now (job .entry))) 0)) ⌝ }
 {
-    !header::header_kept(header) || fields::field(job, 2, 14) != 0
+    !header::header_sound(header) || fields::field(job, 2, 14) != 0
 }
 
 // Cause 4.
 pub fn wrong_length(job: &[u8], header: Header) -> bool
-    requires { ⌜ headerKept header ≡ true ⌝ }
+    requires { ⌜ headerSound header ≡ true ⌝ }
     ensures { λ r. ⌜ r ≡ not (eqb (length (now (job .entry))) (jobLength header)) ⌝ }
 {
     job.len() != header::job_length(header)

@@ -3,8 +3,8 @@ ghost use lib.ListN.{length};
 ghost use mathlib.Core.Bool.{true};
 ghost use mathlib.Core.Path.{_≡_};
 ghost use Prim.Native.Nat.{_≤_};
-ghost use Rattle.rules.specs.Job.{described, headerKept, headerLength, jobLength, marked};
-ghost use Rattle.rules.specs.Record.{headerSound};
+ghost use Rattle.rules.specs.Job.{described, headerSound, headerLength, jobLength, marked};
+ghost use Rattle.rules.specs.Record.{formSound};
 use crate::fields;
 use crate::fields::HEADER_LENGTH;
 use crate::fields::PAIR_LENGTH;
@@ -24,7 +24,7 @@ pub fn marked(job: &[u8]) -> bool
 }
 
 // Whether the numbers of a job's bytes 5 to 13 keep their limits.
-pub fn header_sound(
+pub fn form_sound(
     top: u8,
     bottom: u8,
     elements: usize,
@@ -34,16 +34,16 @@ pub fn header_sound(
     start: u8,
     gravity: u64,
 ) -> bool
-    ensures { λ r. ⌜ r ≡ headerSound top bottom elements «compressibility_points» «conductivity_points» «table_points» start gravity ⌝ }
+    ensures { λ r. ⌜ r ≡ formSound top bottom elements «compressibility_points» «conductivity_points» «table_points» start gravity ⌝ }
 {
-    Flag::holds(top as u64)
-        & Flag::holds(bottom as u64)
-        & Elements::holds(elements as u64)
-        & CurvePoints::holds(compressibility_points as u64)
-        & CurvePoints::holds(conductivity_points as u64)
-        & TablePoints::holds(table_points as u64)
-        & Flag::holds(start as u64)
-        & Gravity::holds(gravity)
+    Flag::within(top as u64)
+        & Flag::within(bottom as u64)
+        & Elements::within(elements as u64)
+        & CurvePoints::within(compressibility_points as u64)
+        & CurvePoints::within(conductivity_points as u64)
+        & TablePoints::within(table_points as u64)
+        & Flag::within(start as u64)
+        & Gravity::within(gravity)
 }
 
 // The numbers of a job's header.
@@ -68,10 +68,10 @@ pub fn read_header(job: &[u8]) -> Header
 }
 
 // Cause 3, of a header: whether its numbers keep their limits.
-pub fn header_kept(header: Header) -> bool
-    ensures { λ r. ⌜ r ≡ headerKept header ⌝ }
+pub fn header_sound(header: Header) -> bool
+    ensures { λ r. ⌜ r ≡ headerSound header ⌝ }
 {
-    header_sound(
+    form_sound(
         header.top,
         header.bottom,
         header.elements,
@@ -85,7 +85,7 @@ pub fn header_kept(header: Header) -> bool
 
 // The length that the four counts of a header ask for.
 pub fn job_length(header: Header) -> usize
-    requires { ⌜ headerKept header ≡ true ⌝ }
+    requires { ⌜ headerSound header ≡ true ⌝ }
     ensures { λ r. ⌜ r ≡ jobLength header ⌝ }
 {
     HEADER_LENGTH

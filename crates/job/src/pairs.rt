@@ -3,7 +3,7 @@ ghost use lib.ListN.{length};
 ghost use mathlib.Core.Bool.{true};
 ghost use mathlib.Core.Path.{_≡_};
 ghost use Rattle.job.specs.Pairs.{Blank, Pairs};
-ghost use Rattle.rules.specs.Job.{described, headerKept, jobLength};
+ghost use Rattle.rules.specs.Job.{described, headerSound, jobLength};
 use crate::fields;
 use crate::fields::HEADER_LENGTH;
 use crate::fields::PAIR_LENGTH;
@@ -23,23 +23,33 @@ pub fn read_pairs<'a>(
     table_load: &mut [u64; 64],
 )
     requires { ⌜ header ≡ (described (now job)) .header ⌝ }
-    requires { ⌜ (headerKept header ≡ true) × (length (now job) ≡ jobLength header) ⌝ }
+    requires { ⌜ (headerSound header ≡ true) × (length (now job) ≡ jobLength header) ⌝ }
     requires { ⌜ Blank (now solids) (now water) (now «compressibility_void») (now «compressibility_stress») (now «conductivity_void») (now conductivity) (now «table_time») (now «table_load») ⌝ }
     ensures { λ _. ⌜ Pairs (described (now (job .entry))) (now (solids .exit)) (now (water .exit)) (now («compressibility_void» .exit)) (now («compressibility_stress» .exit)) (now («conductivity_void» .exit)) (now (conductivity .exit)) (now («table_time» .exit)) (now («table_load» .exit)) ⌝ }
 {
-    let n = header.elements;
-    let m = header.compressibility_points;
-    let k = header.conductivity_points;
-    let times = header.table_points;
-    let compressibility_at = HEADER_LENGTH + PAIR_LENGTH * n;
-    let conductivity_at = compressibility_at + PAIR_LENGTH * m;
-    let table_at = conductivity_at + PAIR_LENGTH * k;
-    fields::read_firsts(job, HEADER_LENGTH, n, solids);
-    fields::read_firsts(job, HEADER_LENGTH + 8, n, water);
-    fields::read_firsts(job, compressibility_at, m, compressibility_stress);
-    fields::read_firsts(job, compressibility_at + 8, m, compressibility_void);
-    fields::read_firsts(job, conductivity_at, k, conductivity_void);
-    fields::read_firsts(job, conductivity_at + 8, k, conductivity);
-    fields::read_firsts(job, table_at, times, table_time);
-    fields::read_firsts(job, table_at + 8, times, table_load);
+    let elements = header.elements;
+    let compressibility_points = header.compressibility_points;
+    let conductivity_points = header.conductivity_points;
+    let table_points = header.table_points;
+    let compressibility_at = HEADER_LENGTH + PAIR_LENGTH * elements;
+    let conductivity_at = compressibility_at + PAIR_LENGTH * compressibility_points;
+    let table_at = conductivity_at + PAIR_LENGTH * conductivity_points;
+    fields::read_firsts(job, HEADER_LENGTH, elements, solids);
+    fields::read_firsts(job, HEADER_LENGTH + 8, elements, water);
+    fields::read_firsts(
+        job,
+        compressibility_at,
+        compressibility_points,
+        compressibility_stress,
+    );
+    fields::read_firsts(
+        job,
+        compressibility_at + 8,
+        compressibility_points,
+        compressibility_void,
+    );
+    fields::read_firsts(job, conductivity_at, conductivity_points, conductivity_void);
+    fields::read_firsts(job, conductivity_at + 8, conductivity_points, conductivity);
+    fields::read_firsts(job, table_at, table_points, table_time);
+    fields::read_firsts(job, table_at + 8, table_points, table_load);
 }

@@ -32,7 +32,7 @@ use Rattle.rules.specs.Outcome.{refusalOf}
 use Rattle.rules.specs.Quantities.{within, clockLimits, budgetLimits, elementLimits}
 use Rattle.rules.specs.Record.{recordSite, recordState, sizesSound, isLayer}
 use Rattle.rules.specs.Refusals.{Trial, firstCause, refusalNumber}
-use Rattle.rules.specs.Result.{Returned, withheld, resultBytes, resultSize}
+use Rattle.rules.specs.Result.{Returned, refusedResult, resultBytes, resultSize}
 use Rattle.rules.specs.Start.{openingState}
 use Rattle.rules.specs.declared.answers.Answer.{Answer}
 use Rattle.rules.specs.declared.answers.Answer.the-variants.{Done, Refused}
@@ -53,16 +53,16 @@ module _ (r : Record) (end budget : ℕ) (buffer : List ℕ) where
       record { number = 0; buffer = overlaid (resultBytes (run .after) (run .stop) (run .steps)) buffer }
 
   by-room : (short : Bool) → ltb (length buffer) (resultSize n) ≡ short →
-      (runToResult r end budget buffer ≡ elim short [ true ↦ withheld ShortBuffer buffer | false ↦ written ]) ×
+      (runToResult r end budget buffer ≡ elim short [ true ↦ refusedResult ShortBuffer buffer | false ↦ written ]) ×
       (waterRun r end budget buffer ≡ elim short [ true ↦ r .layer .water | false ↦ (endedRun r end budget) .after .layer .water ])
   unfolding runToResult waterRun
   by-room short e = (
-    ap (λ (b : Bool). elim b as (λ _. Returned) [ true ↦ withheld ShortBuffer buffer | false ↦ written ]) e,
+    ap (λ (b : Bool). elim b as (λ _. Returned) [ true ↦ refusedResult ShortBuffer buffer | false ↦ written ]) e,
     ap (λ (b : Bool). elim b as (λ _. List ℕ) [ true ↦ r .layer .water | false ↦ (endedRun r end budget) .after .layer .water ]) e,
   )
 
   -- too little room: buffer and water are left
-  pub no-room : length buffer < resultSize n → (runToResult r end budget buffer ≡ withheld ShortBuffer buffer) × (waterRun r end budget buffer ≡ r .layer .water)
+  pub no-room : length buffer < resultSize n → (runToResult r end budget buffer ≡ refusedResult ShortBuffer buffer) × (waterRun r end budget buffer ≡ r .layer .water)
   no-room h = by-room true (lt-ltb _ _ h)
 
   -- room enough: the result is written, and the water is the run's
@@ -74,18 +74,18 @@ module _ (r : Record) (end budget : ℕ) (buffer : List ℕ) where
 module _ (job buffer : List ℕ) where
   by-answer : (answer : Answer) → (opening job) .answer ≡ answer →
       key job buffer ≡ elim (refusalOf answer) [
-        | some cause ↦ withheld cause buffer
+        | some cause ↦ refusedResult cause buffer
         | none ↦ runToResult ((opening job) .after) ((described job) .header .end) ((described job) .header .budget) buffer
       ]
   unfolding key
   by-answer answer e =
       ap (λ (a : Answer). elim (refusalOf a) as (λ _. Returned) [
-        | some cause ↦ withheld cause buffer
+        | some cause ↦ refusedResult cause buffer
         | none ↦ runToResult ((opening job) .after) ((described job) .header .end) ((described job) .header .budget) buffer
       ]) e
 
   -- a refused job
-  pub key-refused : (cause : Refusal) → (opening job) .answer ≡ Refused cause → key job buffer ≡ withheld cause buffer
+  pub key-refused : (cause : Refusal) → (opening job) .answer ≡ Refused cause → key job buffer ≡ refusedResult cause buffer
   unfolding refusalOf
   key-refused cause e = by-answer (Refused cause) e
 
@@ -168,16 +168,16 @@ opening-numbered job = found (firstCause (jobCauses job)) refl (descriptionWater
     found none p (some water) = inr refl
 
 run-number : (r : Record) (end budget : ℕ) (buffer : List ℕ) → (runToResult r end budget buffer) .number ≤ 10
-unfolding runToResult withheld refusalNumber
+unfolding runToResult refusedResult refusalNumber
 run-number r end budget buffer = go (ltb (length buffer) (resultSize (r .layer .frame .elements)))
   where
-    go : (short : Bool) → (elim short as (λ _. Returned) [ true ↦ withheld ShortBuffer buffer | false ↦ written r end budget buffer ]) .number ≤ 10
+    go : (short : Bool) → (elim short as (λ _. Returned) [ true ↦ refusedResult ShortBuffer buffer | false ↦ written r end budget buffer ]) .number ≤ 10
     go true = lit≤ tt
     go false = lit≤ tt
 
 -- The key returns 0, or the number of one of the causes 1 to 10.
 pub key-numbers : (job buffer : List ℕ) → (key job buffer) .number ≤ 10
-unfolding withheld refusedOpening AtMost9
+unfolding refusedResult refusedOpening AtMost9
 key-numbers job buffer =
     ⊎-elim
     (λ (cause, (is, small)). rw (key-refused job buffer cause (ap (λ (a : Answered). a .answer) is)) (omega arith))
@@ -188,25 +188,25 @@ key-numbers job buffer =
 
 -- all past the first n places is left; with a number other than 0, the whole buffer
 pub record Leaves (buffer : List ℕ) (n : ℕ) (x : Returned) : Type 0 where
-  pub withheld-whole : (x .number ≡ 0 → ⊥) → x .buffer ≡ buffer
+  pub refused-whole : (x .number ≡ 0 → ⊥) → x .buffer ≡ buffer
   pub past : x .buffer ≡ overlaid (take n (x .buffer)) buffer
 
 module _ (buffer : List ℕ) (n : ℕ) where
   leaves-whole : (number : ℕ) → Leaves buffer n (record { number = number; buffer = buffer })
-  leaves-whole number = record { withheld-whole = λ _. refl; past = sym (overlaid-take n buffer) }
+  leaves-whole number = record { refused-whole = λ _. refl; past = sym (overlaid-take n buffer) }
 
   leaves-front : (front : List ℕ) → length front ≡ n → Leaves buffer n (record { number = 0; buffer = overlaid front buffer })
   unfolding overlaid
   leaves-front front h = record {
-    withheld-whole = λ other. absurd (other refl);
+    refused-whole = λ other. absurd (other refl);
     past = rw (← h, take-append-seam front _) refl;
   }
 
   leaves-run : (r : Record) (end budget : ℕ) → resultSize (r .layer .frame .elements) ≡ n → Leaves buffer n (runToResult r end budget buffer)
-  unfolding runToResult withheld
+  unfolding runToResult refusedResult
   leaves-run r end budget h = go (ltb (length buffer) (resultSize (r .layer .frame .elements)))
     where
-      go : (short : Bool) → Leaves buffer n (elim short [ true ↦ withheld ShortBuffer buffer | false ↦ written r end budget buffer ])
+      go : (short : Bool) → Leaves buffer n (elim short [ true ↦ refusedResult ShortBuffer buffer | false ↦ written r end budget buffer ])
       go true = leaves-whole (refusalNumber ShortBuffer)
       go false =
           let run = endedRun r end budget in
@@ -219,7 +219,7 @@ module _ (job buffer : List ℕ) where
 
   -- the key leaves all past its result
   pub key-leaves : Leaves buffer size (key job buffer)
-  unfolding refusedOpening withheld
+  unfolding refusedOpening refusedResult
   key-leaves =
       ⊎-elim
       (λ (cause, is). rw (key-refused job buffer cause (ap (λ (a : Answered). a .answer) is)) (leaves-whole buffer size (refusalNumber cause)))

@@ -44,7 +44,7 @@ pub fn run_to_result<'a>(
     ensures { λ r _. ⌜ now (water .exit) ≡ waterRun r (header .end) (header .budget) (now (out .entry)) ⌝ }
 {
     if out.len() < result::result_size(frame.elements) {
-        return result::withheld(Refusal::ShortBuffer);
+        return result::refused(Refusal::ShortBuffer);
     }
     let counts = record::curve_counts(header);
     let ended = run::run_lent(
@@ -109,7 +109,7 @@ pub extern "C" fn consolidation_key(job: &[u8], result: &mut [u8]) -> u32
         &mut burden,
     );
     match opened {
-        Opened::Refused(cause) => result::withheld(cause),
+        Opened::Refused(cause) => result::refused(cause),
         Opened::Accepted(header, frame, progress) => run_to_result(
             header,
             frame,

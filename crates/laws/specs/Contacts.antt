@@ -12,7 +12,7 @@ use Rattle.numbers.specs.Lists.{any}
 use Rattle.numbers.specs.Rounding.{floor}
 use Rattle.numbers.specs.Division.{le-floor}
 use Rattle.rules.specs.Layer.{Site, State, Element, sensitivity, burdens, element, elementsFrom, elements}
-use Rattle.rules.specs.Step.{Contact, outerContacts, contactsAbove, contacts, stressSlope, tooLongAt, tooLong}
+use Rattle.rules.specs.Step.{Contact, outerContacts, contactsAbove, contacts, siteSteepness, tooLongAt, tooLong}
 use Rattle.rules.specs.declared.quantities.Face.{Face}
 use Rattle.rules.specs.declared.quantities.Face.the-variants.{Closed, Drained}
 use Rattle.laws.specs.Every.{Every, every-of, every-none, every-map, every-append}
@@ -101,24 +101,24 @@ module _ (site : Site) (s : State) where
   layer = contacts site.top site.bottom (elements site s)
 
   -- a step is not too long just where it is short enough for every contact of the layer
-  pub step-short-enough : (t : ℕ) → T (not (tooLong site s t)) ↔ Every (ShortFor (stressSlope site) t) layer
+  pub step-short-enough : (t : ℕ) → T (not (tooLong site s t)) ↔ Every (ShortFor (siteSteepness site) t) layer
   unfolding tooLong
-  step-short-enough = short-enough (stressSlope site) layer
+  step-short-enough = short-enough (siteSteepness site) layer
 
   -- a shorter step is not too long where a longer one isn't
   pub step-shorter : (t u : ℕ) → t ≤ u → T (not (tooLong site s u)) → T (not (tooLong site s t))
   unfolding tooLong
-  step-shorter = shorter (stressSlope site) layer
+  step-shorter = shorter (siteSteepness site) layer
 
   -- no step of 0 seconds is too long
   pub no-step-short : T (not (tooLong site s 0))
   unfolding tooLong
-  no-step-short = nothing-short (stressSlope site) layer
+  no-step-short = nothing-short (siteSteepness site) layer
 
   -- every contact of the layer limits the step, where neither the slope nor a solids height is 0
-  pub layer-limiting : 0 < stressSlope site → Every (λ S. 0 < S) site.solids → Every (Limiting (stressSlope site)) layer
+  pub layer-limiting : 0 < siteSteepness site → Every (λ S. 0 < S) site.solids → Every (Limiting (siteSteepness site)) layer
   unfolding elements
   layer-limiting k solid =
-      every-contact (λ c. 0 < 2 * c * stressSlope site) site.top site.bottom (elements site s)
-      (every-sensitivity (λ c. 0 < 2 * c * stressSlope site) (λ S h. mul-pos (mul-pos (omega arith) (sensitivity-pos S h)) k)
+      every-contact (λ c. 0 < 2 * c * siteSteepness site) site.top site.bottom (elements site s)
+      (every-sensitivity (λ c. 0 < 2 * c * siteSteepness site) (λ S h. mul-pos (mul-pos (omega arith) (sensitivity-pos S h)) k)
       site s.load (burdens site.gravity site.solids) site.solids s.water solid)

@@ -11,7 +11,7 @@ use Rattle.numbers.specs.Interval.{Within, within-le, within-pos, within-neg, w
 use Rattle.numbers.specs.Lists.{firstOr, lastOr}
 use Rattle.rules.specs.Layer.{Site, State, Element, elements}
 use Rattle.rules.specs.Quantities.{outflowRate, mostHeadPressure}
-use Rattle.rules.specs.Step.{upward, outward, flowsAbove, upwardFlows, stressSlope, outerContacts, contactsAbove, contacts, tooLong}
+use Rattle.rules.specs.Step.{upward, outward, flowsAbove, upwardFlows, siteSteepness, outerContacts, contactsAbove, contacts, tooLong}
 use Rattle.rules.specs.declared.quantities.Face.{Face}
 use Rattle.rules.specs.declared.quantities.Face.the-variants.{Closed, Drained}
 use Rattle.laws.specs.Every.{Every, every-append}
@@ -67,10 +67,10 @@ module _ (K t : ℕ) (h : 1 ≤ t) where
       )
 
 -- in a step that is not too long the flows through both outer faces are in range
-pub outflow-within : (site : Site) (s : State) (t : ℕ) → 1 ≤ t → 0 < stressSlope site → Every (λ S. 0 < S) site.solids →
+pub outflow-within : (site : Site) (s : State) (t : ℕ) → 1 ≤ t → 0 < siteSteepness site → Every (λ S. 0 < S) site.solids →
     HeldWithin site.top → HeldWithin site.bottom → Every ExcessWithin (elements site s) → T (not (tooLong site s t)) →
     OuterWithin t (firstOr (pos 0) (upwardFlows site.top site.bottom t (elements site s))) ×
     OuterWithin t (lastOr (pos 0) (upwardFlows site.top site.bottom t (elements site s)))
 outflow-within site s t h slope solid top bottom p short =
-    outer-within (stressSlope site) t h site.top site.bottom (elements site s) top bottom p
+    outer-within (siteSteepness site) t h site.top site.bottom (elements site s) top bottom p
     (layer-limiting site s slope solid) (step-short-enough site s t .0 short)

@@ -4,7 +4,7 @@ use native.Mathlib.Nat.{mul-le-mul-left}
 use native.Mathlib.Omega.{arith}
 use lib.Dec.{T}
 use mathlib.Core.List.{List}
-use Rattle.rules.specs.Curve.{Point, curveAt, isOn, valueOf, falling, steepness}
+use Rattle.rules.specs.Curve.{Point, curveAt, isOn, valueOf, falling, curveSteepness}
 use Rattle.rules.specs.Layer.{skeletonOf, voidRatio, sensitivity, effectiveStress}
 use Rattle.rules.specs.declared.quantities.CurveValue.{CurveValue}
 use Rattle.rules.proofs.Falling.{on-from-first, never-rises}
@@ -19,7 +19,7 @@ pub record BoundedFall (reading : ℕ → CurveValue) (K : ℕ) : Type 0 where
       valueOf (reading x) ≤ valueOf (reading y) + K * (y - x)
 
 -- a falling curve falls by at most its steepness
-pub curve-fall : (l : List Point) → T (falling l) → BoundedFall (curveAt l) (steepness l)
+pub curve-fall : (l : List Point) → T (falling l) → BoundedFall (curveAt l) (curveSteepness l)
 curve-fall l f = record {
   falls = λ x y h t u. never-rises l x y f h (on-from-first l y f u .0) t .1;
   slope = λ x y h t u. curve-slope l x y f h t u;
@@ -38,6 +38,6 @@ water-fall reading K fall S solid = record {
 }
 
 -- so does the effective stress of an element, with the curve's steepness for K, where the curve falls
-pub stress-fall : (l : List Point) → T (falling l) → (S : ℕ) → 0 < S → BoundedFall (effectiveStress (skeletonOf l) S) (sensitivity S * steepness l)
+pub stress-fall : (l : List Point) → T (falling l) → (S : ℕ) → 0 < S → BoundedFall (effectiveStress (skeletonOf l) S) (sensitivity S * curveSteepness l)
 unfolding effectiveStress
-stress-fall l f S solid = water-fall (curveAt l) (steepness l) (curve-fall l f) S solid
+stress-fall l f S solid = water-fall (curveAt l) (curveSteepness l) (curve-fall l f) S solid

@@ -12,7 +12,7 @@ use Rattle.numbers.specs.Division.{le-floor}
 use Rattle.numbers.specs.Lists.{any, greatest}
 use Rattle.numbers.specs.Searches.{by-test}
 use Rattle.rules.specs.Layer.{Site, State, Element, elements}
-use Rattle.rules.specs.Step.{Contact, innerResistance, contactsAbove, contacts, stressSlope, tooLongAt, tooLong}
+use Rattle.rules.specs.Step.{Contact, innerResistance, contactsAbove, contacts, siteSteepness, tooLongAt, tooLong}
 use Rattle.rules.specs.Run.{longestReach, longestStep}
 use Rattle.rules.specs.declared.quantities.Face.{Face}
 use Rattle.laws.specs.Every.{Every}
@@ -125,10 +125,10 @@ inner-shortened K most top e f rest p p′ =
 -- ---- a run
 
 -- the longest step of a run is the reach, shortened for each contact of the layer
-pub longest-shortened : (site : Site) (end : ℕ) (s : State) → 0 < stressSlope site → Every (λ S. 0 < S) site.solids →
+pub longest-shortened : (site : Site) (end : ℕ) (s : State) → 0 < siteSteepness site → Every (λ S. 0 < S) site.solids →
     longestStep site end s ≡
-    shortened (stressSlope site) (longestReach site end s.clock) (contacts site.top site.bottom (elements site s))
+    shortened (siteSteepness site) (longestReach site end s.clock) (contacts site.top site.bottom (elements site s))
 unfolding longestStep tooLong
 longest-shortened site end s k solid =
-    greatest-shortened (stressSlope site) (longestReach site end s.clock) (contacts site.top site.bottom (elements site s))
+    greatest-shortened (siteSteepness site) (longestReach site end s.clock) (contacts site.top site.bottom (elements site s))
     (layer-limiting site s k solid)

@@ -16,7 +16,7 @@ use Rattle.rules.specs.Curve.{points, compressibilitySound, conductivitySound}
 use Rattle.rules.specs.Layer.{topPressure, bottomPressure}
 use Rattle.rules.specs.Load.{tableSound}
 use Rattle.rules.specs.Quantities.{levelLimits, pressureOf, mostHeadPressure}
-use Rattle.rules.specs.Record.{headerSound, faceNumber, sizesSound, faceHolds, recordSite, recordState, siteSound}
+use Rattle.rules.specs.Record.{formSound, faceNumber, sizesSound, faceHolds, recordSite, recordState, siteSound}
 use Rattle.rules.specs.declared.quantities.Face.{Face}
 use Rattle.rules.specs.declared.quantities.Face.the-variants.{Closed, Drained}
 use Rattle.rules.specs.declared.quantities.Pressure.{Pressure}
@@ -25,7 +25,7 @@ use Rattle.laws.specs.Sizes.{SoundSizes, sound-sizes}
 
 -- the parts of a sound site
 pub record SiteParts (r : Record) : Type 0 where
-  pub header : headerSound (faceNumber (r .layer .frame .top)) (faceNumber (r .layer .frame .bottom)) (r .layer .frame .elements) (r .soil .counts .compressibility) (r .soil .counts .conductivity) (r .layer .frame .«table_points») 0 (r .layer .frame .gravity) ≡ true
+  pub header : formSound (faceNumber (r .layer .frame .top)) (faceNumber (r .layer .frame .bottom)) (r .layer .frame .elements) (r .soil .counts .compressibility) (r .soil .counts .conductivity) (r .layer .frame .«table_points») 0 (r .layer .frame .gravity) ≡ true
   pub sizes : sizesSound (recordSite r) ((recordState r) .water) ≡ true
   pub compressibility : compressibilitySound ((recordSite r) .compressibility) ≡ true
   pub conductivity : conductivitySound ((recordSite r) .conductivity) ((recordSite r) .compressibility) ≡ true
@@ -35,7 +35,7 @@ pub record SiteParts (r : Record) : Type 0 where
 
 -- a sound site by the tests of its parts
 pub site-by : (r : Record) {a b c d t top bottom : Bool} →
-    headerSound (faceNumber (r .layer .frame .top)) (faceNumber (r .layer .frame .bottom)) (r .layer .frame .elements) (r .soil .counts .compressibility) (r .soil .counts .conductivity) (r .layer .frame .«table_points») 0 (r .layer .frame .gravity) ≡ a →
+    formSound (faceNumber (r .layer .frame .top)) (faceNumber (r .layer .frame .bottom)) (r .layer .frame .elements) (r .soil .counts .compressibility) (r .soil .counts .conductivity) (r .layer .frame .«table_points») 0 (r .layer .frame .gravity) ≡ a →
     sizesSound (recordSite r) ((recordState r) .water) ≡ b → compressibilitySound ((recordSite r) .compressibility) ≡ c →
     conductivitySound ((recordSite r) .conductivity) ((recordSite r) .compressibility) ≡ d → tableSound ((recordSite r) .loadTable) ≡ t →
     faceHolds (r .layer .frame .top) topPressure ≡ top → faceHolds (r .layer .frame .bottom) (bottomPressure ((recordSite r) .topLevel) ((recordSite r) .bottomLevel)) ≡ bottom →
@@ -47,7 +47,7 @@ pub site-parts : (r : Record) → siteSound r ≡ true → SiteParts r
 unfolding siteSound
 site-parts r e =
     let site = recordSite r in
-    let a = headerSound (faceNumber (r .layer .frame .top)) (faceNumber (r .layer .frame .bottom)) (r .layer .frame .elements) (r .soil .counts .compressibility) (r .soil .counts .conductivity) (r .layer .frame .«table_points») 0 (r .layer .frame .gravity) in
+    let a = formSound (faceNumber (r .layer .frame .top)) (faceNumber (r .layer .frame .bottom)) (r .layer .frame .elements) (r .soil .counts .compressibility) (r .soil .counts .conductivity) (r .layer .frame .«table_points») 0 (r .layer .frame .gravity) in
     let b = sizesSound site ((recordState r) .water) in
     let c = compressibilitySound (site .compressibility) in
     let d = conductivitySound (site .conductivity) (site .compressibility) in

@@ -10,7 +10,7 @@ use Rattle.numbers.specs.Rounding.{ceil}
 use Rattle.numbers.specs.Interpolation.{distance}
 use Rattle.numbers.specs.Division.{ceil-pos}
 use Rattle.numbers.specs.Share.{interpolates}
-use Rattle.rules.specs.Curve.{Point, spans, interpolated, curveAt, isOn, valueOf, falling, steepness}
+use Rattle.rules.specs.Curve.{Point, spans, interpolated, curveAt, isOn, valueOf, falling, curveSteepness}
 use Rattle.rules.specs.declared.quantities.CurveValue.the-variants.{On}
 use Rattle.rules.proofs.Falling.{Falls, on-segment, falling-parts, spans-within, within-spans, on-from-first}
 use Rattle.laws.specs.Segment.{at-first, interpolated-last}
@@ -57,34 +57,34 @@ first-on b (c ∷ rest) x t = at-first b c rest
 
 -- along the whole curve the value falls by at most the steepness for each unit
 pub curve-slope : (l : List Point) (x y : ℕ) → T (falling l) → x ≤ y → T (isOn (curveAt l x)) → T (isOn (curveAt l y)) →
-    valueOf (curveAt l x) ≤ valueOf (curveAt l y) + steepness l * (y - x)
-unfolding curveAt isOn valueOf steepness
+    valueOf (curveAt l x) ≤ valueOf (curveAt l y) + curveSteepness l * (y - x)
+unfolding curveAt isOn valueOf curveSteepness
 curve-slope [] x y f h t u = absurd t
 curve-slope (a ∷ []) x y f h t u = absurd t
 curve-slope (a ∷ b ∷ rest) x y f h t u =
     let (s, g) = falling-parts a b rest f in
     let C = slopeOf a b in
-    let G = steepness (b ∷ rest) in
+    let G = curveSteepness (b ∷ rest) in
     let far = curve-slope (b ∷ rest) x y g h in
     let near = curve-slope (b ∷ rest) x b.abscissa g in
     let right = on-from-first (a ∷ b ∷ rest) y f u .0 in
-    on-segment a b rest x (λ v. T (isOn v) → valueOf v ≤ valueOf (curveAt (a ∷ b ∷ rest) y) + steepness (a ∷ b ∷ rest) * (y - x))
+    on-segment a b rest x (λ v. T (isOn v) → valueOf v ≤ valueOf (curveAt (a ∷ b ∷ rest) y) + curveSteepness (a ∷ b ∷ rest) * (y - x))
     (λ sx _.
-    on-segment a b rest y (λ w. interpolated a b x ≤ valueOf w + steepness (a ∷ b ∷ rest) * (y - x))
+    on-segment a b rest y (λ w. interpolated a b x ≤ valueOf w + curveSteepness (a ∷ b ∷ rest) * (y - x))
     (λ _. steeper C (max C G) (y - x) (interpolated a b x) (interpolated a b y) (omega arith) (segment-slope a b s x y h right))
     (λ ny. absurd (T-not (spans a b y) ny (within-spans a b s y (le-trans (spans-within a b s x sx .0) h) right))))
     (λ nx on.
     let left = on-from-first (b ∷ rest) x g on .0 in
     let e = first-on b rest x on in
-    on-segment a b rest y (λ w. T (isOn w) → valueOf (curveAt (b ∷ rest) x) ≤ valueOf w + steepness (a ∷ b ∷ rest) * (y - x))
+    on-segment a b rest y (λ w. T (isOn w) → valueOf (curveAt (b ∷ rest) x) ≤ valueOf w + curveSteepness (a ∷ b ∷ rest) * (y - x))
     (λ sy _. across a b s G x y (valueOf (curveAt (b ∷ rest) x)) left (spans-within a b s y sy .0) right (rw e at (near left on (rw e tt))))
     (λ ny on′. steeper G (max C G) (y - x) (valueOf (curveAt (b ∷ rest) x)) (valueOf (curveAt (b ∷ rest) y)) (omega arith) (far on on′))
     u)
     t
 
 -- the steepness of a falling curve is not 0
-pub steepness-pos : (l : List Point) → T (falling l) → 2 ≤ length l → 0 < steepness l
-unfolding steepness
+pub steepness-pos : (l : List Point) → T (falling l) → 2 ≤ length l → 0 < curveSteepness l
+unfolding curveSteepness
 steepness-pos [] f h = absurd (omega arith)
 steepness-pos (a ∷ []) f h = absurd (omega arith)
 steepness-pos (a ∷ b ∷ rest) f h =

@@ -5,8 +5,8 @@ use mathlib.Core.Bool.{true, _&&_}
 use mathlib.Core.Path.{_≡_}
 use Rattle.numbers.specs.Searches.{passed, both}
 use Rattle.rules.specs.Quantities.{Limits, within, flagLimits, elementLimits, curveLimits, tableLimits, gravityLimits}
-use Rattle.rules.specs.Job.{headerKept}
-use Rattle.rules.specs.Record.{headerSound}
+use Rattle.rules.specs.Job.{headerSound}
+use Rattle.rules.specs.Record.{formSound}
 use Rattle.rules.specs.declared.job.Header.{Header}
 
 -- a number keeps limits
@@ -31,9 +31,9 @@ pub record SoundHeader
   pub gravity-kept : Kept gravityLimits gravity
 
 pub sound-header : (top bottom elements compressibilityPoints conductivityPoints tablePoints start gravity : ℕ) →
-    headerSound top bottom elements compressibilityPoints conductivityPoints tablePoints start gravity ≡ true →
+    formSound top bottom elements compressibilityPoints conductivityPoints tablePoints start gravity ≡ true →
     SoundHeader top bottom elements compressibilityPoints conductivityPoints tablePoints start gravity
-unfolding headerSound
+unfolding formSound
 sound-header top bottom elements compressibilityPoints conductivityPoints tablePoints start gravity e =
     let two = within flagLimits top && within flagLimits bottom in
     let three = two && within elementLimits elements in
@@ -60,9 +60,9 @@ sound-header top bottom elements compressibilityPoints conductivityPoints tableP
     }
 
 -- those of a header that cause 3 does not refuse
-pub kept-header : (h : Header) → headerKept h ≡ true →
+pub kept-header : (h : Header) → headerSound h ≡ true →
     SoundHeader h.top h.bottom h.elements (h .«compressibility_points») (h .«conductivity_points») (h .«table_points») h.start h.gravity
-unfolding headerKept
+unfolding headerSound
 kept-header h e =
     sound-header h.top h.bottom h.elements (h .«compressibility_points») (h .«conductivity_points») (h .«table_points») h.start
     h.gravity e

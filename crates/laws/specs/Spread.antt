@@ -11,7 +11,7 @@ use Rattle.numbers.specs.Searches.{both}
 use Rattle.rules.specs.Curve.{falling}
 use Rattle.rules.specs.Layer.{Site, State, skeleton, Element, element, elementsFrom, elements, burden, burdens, effectiveStress, sensitivity}
 use Rattle.numbers.specs.Lists.{paired}
-use Rattle.rules.specs.Step.{innerResistance, upward, outward, flowsAbove, upwardFlows, moved, newHeight, stepped, stressSlope}
+use Rattle.rules.specs.Step.{innerResistance, upward, outward, flowsAbove, upwardFlows, moved, newHeight, stepped, siteSteepness}
 use Rattle.rules.specs.Step.{Contact, outerContacts, contactsAbove, contacts, tooLong, onCurve, allOnCurve, leavesCurve}
 use Rattle.rules.specs.declared.quantities.Face.{Face}
 use Rattle.rules.specs.declared.quantities.Face.the-variants.{Closed, Drained}
@@ -28,14 +28,14 @@ Holds P Closed = Unit {0}
 Holds P (Drained held) = P (held .0)
 
 module _ (site : Site) {P : ℤ → Type 0} (convex : Convex P)
-    (fall : (S : ℕ) → 0 < S → BoundedFall (effectiveStress (skeleton site) S) (sensitivity S * stressSlope site)) (t : ℕ) where
+    (fall : (S : ℕ) → 0 < S → BoundedFall (effectiveStress (skeleton site) S) (sensitivity S * siteSteepness site)) (t : ℕ) where
   -- twice the most by which the stress of an element falls for each nanometre of water
   abbrev K : Element → ℕ
-  K e = 2 * (e.sensitivity * stressSlope site)
+  K e = 2 * (e.sensitivity * siteSteepness site)
 
   -- the step is short enough for a contact
   abbrev Short : Contact → Type 0
-  Short = ShortFor (stressSlope site) t
+  Short = ShortFor (siteSteepness site) t
 
   -- a water height of an element is on the curve
   abbrev on : (S : ℕ) (W : ℤ) → Bool
@@ -143,5 +143,5 @@ pub stays-between : (site : Site) (lo hi : ℤ) (t : ℕ) (s : State) → T (fal
     Holds (Between lo hi) site.top → Holds (Between lo hi) site.bottom → Every (λ e. Between lo hi (e .excess)) (elements site s) →
     T (allOnCurve (skeleton site) site.solids (map pos s.water)) → T (not (tooLong site s t)) → T (not (leavesCurve site s t)) →
     Every (λ e. Between lo hi (e .excess)) (elements site (stepped site t s))
-unfolding stressSlope
+unfolding siteSteepness
 stays-between site lo hi t s falls = spread site (between-convex lo hi) (stress-fall site.compressibility falls) t s

@@ -13,7 +13,7 @@ use Rattle.numbers.specs.Searches.{passed, both, is-true}
 use Rattle.numbers.specs.Sums.{sum}
 use Rattle.rules.proofs.Limits.{within-parts}
 use Rattle.rules.specs.Quantities.{within, withinℤ, stressLimits, clockLimits, startingWaterLimits, outflowRate}
-use Rattle.rules.specs.Record.{recordSite, recordState, outflowSound, stateSound}
+use Rattle.rules.specs.Record.{recordSite, recordState, outflowWithin, stateSound}
 use Rattle.rules.specs.Step.{allOnCurve}
 use Rattle.rules.specs.declared.record.Record.{Record}
 use Rattle.rules.specs.Layer.{skeleton}
@@ -23,16 +23,16 @@ use Rattle.laws.specs.Sizes.{signed-between}
 pub state-by : (r : Record) {a b c d e f g : Bool} →
     allOnCurve (skeleton (recordSite r)) ((recordSite r) .solids) (map pos ((recordState r) .water)) ≡ a →
     withinℤ stressLimits ((recordState r) .load) ≡ b → within clockLimits ((recordState r) .clock) ≡ c →
-    within startingWaterLimits (r .layer .frame .«starting_water») ≡ d → outflowSound ((recordState r) .topOutflow) ((recordState r) .clock) ≡ e →
-    outflowSound ((recordState r) .bottomOutflow) ((recordState r) .clock) ≡ f →
+    within startingWaterLimits (r .layer .frame .«starting_water») ≡ d → outflowWithin ((recordState r) .topOutflow) ((recordState r) .clock) ≡ e →
+    outflowWithin ((recordState r) .bottomOutflow) ((recordState r) .clock) ≡ f →
     eqℤ (pos (r .layer .frame .«starting_water»)) (pos (sum ((recordState r) .water)) +ℤ (recordState r) .topOutflow +ℤ (recordState r) .bottomOutflow) ≡ g →
     stateSound r ≡ (a && b && c && d && e && f && g)
 unfolding stateSound
 state-by r e₁ e₂ e₃ e₄ e₅ e₆ e₇ = rw (e₁, e₂, e₃, e₄, e₅, e₆, e₇) refl
 
 -- an outflow that keeps its bound
-pub outflow-bound : (outflow : ℤ) (clock : ℕ) → outflowSound outflow clock ≡ true → Within outflow (outflowRate * clock)
-unfolding outflowSound
+pub outflow-bound : (outflow : ℤ) (clock : ℕ) → outflowWithin outflow clock ≡ true → Within outflow (outflowRate * clock)
+unfolding outflowWithin
 outflow-bound outflow clock e = record { bound = leb→le (natAbs outflow) (outflowRate * clock) (passed e) }
 
 -- what a sound state says
@@ -54,8 +54,8 @@ state-facts r e =
     let b = withinℤ stressLimits (s .load) in
     let c = within clockLimits (s .clock) in
     let d = within startingWaterLimits (r .layer .frame .«starting_water») in
-    let t = outflowSound (s .topOutflow) (s .clock) in
-    let u = outflowSound (s .bottomOutflow) (s .clock) in
+    let t = outflowWithin (s .topOutflow) (s .clock) in
+    let u = outflowWithin (s .bottomOutflow) (s .clock) in
     let g = eqℤ (pos (r .layer .frame .«starting_water»)) (pos (sum (s .water)) +ℤ s .topOutflow +ℤ s .bottomOutflow) in
     let (first6, balanced) = both (a && b && c && d && t && u) g (passed e) in
     let (first5, bottom) = both (a && b && c && d && t) u first6 in

@@ -8,7 +8,7 @@ use mathlib.Core.List.{List, [], _∷_}
 use Rattle.numbers.specs.Division.{ceil-pos, ceil-le}
 use Rattle.numbers.specs.Lists.{all, neighbours}
 use Rattle.numbers.specs.Searches.{both}
-use Rattle.rules.specs.Curve.{Point, falling, compressibilitySound, steepness}
+use Rattle.rules.specs.Curve.{Point, falling, compressibilitySound, curveSteepness}
 use Rattle.rules.specs.Quantities.{within, voidLimits, stressLimits}
 
 -- one segment of a falling curve
@@ -21,8 +21,8 @@ segment-falls a b rest f =
     (ltb→lt a.ordinate b.ordinate up, ltb→lt b.abscissa a.abscissa down, more)
 
 -- a falling curve has a segment that falls
-pub steep-positive : (l : List Point) → T (falling l) → 2 ≤ length l → 0 < steepness l
-unfolding steepness
+pub steep-positive : (l : List Point) → T (falling l) → 2 ≤ length l → 0 < curveSteepness l
+unfolding curveSteepness
 steep-positive [] f two = absurd (omega arith)
 steep-positive (a ∷ []) f two = absurd (omega arith)
 steep-positive (a ∷ b ∷ rest) f two =
@@ -33,8 +33,8 @@ abbrev inLimits : Point → Bool
 inLimits p = within voidLimits (p .abscissa) && within stressLimits (p .ordinate)
 
 -- a stress within its limits rises by at most the greatest over any fall
-steep-within : (l : List Point) → T (all inLimits l) → T (falling l) → steepness l ≤ stressLimits .most
-unfolding steepness all within
+steep-within : (l : List Point) → T (all inLimits l) → T (falling l) → curveSteepness l ≤ stressLimits .most
+unfolding curveSteepness all within
 steep-within [] t f = omega arith
 steep-within (a ∷ []) t f = omega arith
 steep-within (a ∷ b ∷ rest) t f =
@@ -49,6 +49,6 @@ steep-within (a ∷ b ∷ rest) t f =
       steep-within (b ∷ rest) later more,
     )
 
-pub steep-most : (l : List Point) → T (compressibilitySound l) → steepness l ≤ stressLimits .most
+pub steep-most : (l : List Point) → T (compressibilitySound l) → curveSteepness l ≤ stressLimits .most
 unfolding compressibilitySound
 steep-most l sound = let (t, f) = both (all inLimits l) (falling l) sound in steep-within l t f

@@ -10,6 +10,7 @@ ghost use Rattle.rules.specs.Layer.{skeletonOf, excessPressure, resistance};
 ghost use Rattle.rules.specs.Quantities.{elementLimits, pressure};
 use curves::reading;
 use rules::quantities::Pressure;
+use rules::record::Skeleton;
 
 // An element as read, with the segments of both curves where it was found.
 pub struct Read {
@@ -25,23 +26,29 @@ pub fn read_element<'a>(
     burden: u64,
     solids: u64,
     water: u64,
-    m: usize,
+    skeleton: Skeleton,
     void: &'a [u64; 64],
     stress: &'a [u64; 64],
-    n: usize,
+    conductivity_points: usize,
     conductivity_void: &'a [u64; 64],
     conductivity: &'a [u64; 64],
     stress_hint: usize,
     conductivity_hint: usize,
 ) -> Read
-    requires { ⌜ Soil m (now void) (now stress) n (now «conductivity_void») (now conductivity) ⌝ }
-    requires { ⌜ OnSoil m (now void) (now stress) (load .0) burden solids water ⌝ }
-    ensures { λ r. ⌜ (r .excess ≡ pressure (excessPressure (skeletonOf (points m (now (void .entry)) (now (stress .entry)))) (load .0) burden solids water)) × (r .resistance ≡ resistance (points n (now («conductivity_void» .entry)) (now (conductivity .entry))) solids water) ⌝ }
-    ensures { λ r. ⌜ (r .«stress_segment» + 1 < m) × (r .«conductivity_segment» + 1 < n) ⌝ }
+    requires { ⌜ Soil (skeleton .points) (now void) (now stress) «conductivity_points» (now «conductivity_void») (now conductivity) ⌝ }
+    requires { ⌜ OnSoil (skeleton .points) (now void) (now stress) (load .0) burden solids water ⌝ }
+    ensures { λ r. ⌜ (r .excess ≡ pressure (excessPressure (skeletonOf (points (skeleton .points) (now (void .entry)) (now (stress .entry)))) (load .0) burden solids water)) × (r .resistance ≡ resistance (points «conductivity_points» (now («conductivity_void» .entry)) (now (conductivity .entry))) solids water) ⌝ }
+    ensures { λ r. ⌜ (r .«stress_segment» + 1 < (skeleton .points)) × (r .«conductivity_segment» + 1 < «conductivity_points») ⌝ }
 {
-    let found = element::effective_stress(solids, water, m, void, stress, stress_hint);
+    let found = element::effective_stress(solids, water, skeleton, void, stress, stress_hint);
     let ratio = element::void_ratio(solids, water);
-    let passed = reading::read(n, conductivity_void, conductivity, ratio, conductivity_hint);
+    let passed = reading::read(
+        conductivity_points,
+        conductivity_void,
+        conductivity,
+        ratio,
+        conductivity_hint,
+    );
     let stress_value = found.value;
     let conductivity_value = passed.value;
     Read {
@@ -54,15 +61,15 @@ pub fn read_element<'a>(
 
 // Reads every element: excess pressures and resistances in the first places, the segments beside them.
 pub fn read_elements<'a>(
-    count: usize,
+    elements: usize,
     load: Pressure,
     burden: &'a [u64; 128],
     solids: &'a [u64; 128],
     water: &'a [u64; 128],
-    m: usize,
+    skeleton: Skeleton,
     void: &'a [u64; 64],
     stress: &'a [u64; 64],
-    n: usize,
+    conductivity_points: usize,
     conductivity_void: &'a [u64; 64],
     conductivity: &'a [u64; 64],
     stress_segment: &mut [usize; 128],
@@ -70,26 +77,26 @@ pub fn read_elements<'a>(
     excess: &mut [i64; 128],
     resistance: &mut [u64; 128],
 )
-    requires { ⌜ count ≤ elementLimits .most ⌝ }
-    requires { ⌜ Soil m (now void) (now stress) n (now «conductivity_void») (now conductivity) ⌝ }
-    requires { ⌜ ((j : ℕ) → j < count → OnSoil m (now void) (now stress) (load .0) (getD (now burden) j 0) (getD (now solids) j 0) (getD (now water) j 0)) ⌝ }
+    requires { ⌜ elements ≤ elementLimits .most ⌝ }
+    requires { ⌜ Soil (skeleton .points) (now void) (now stress) «conductivity_points» (now «conductivity_void») (now conductivity) ⌝ }
+    requires { ⌜ ((j : ℕ) → j < elements → OnSoil (skeleton .points) (now void) (now stress) (load .0) (getD (now burden) j 0) (getD (now solids) j 0) (getD (now water) j 0)) ⌝ }
     requires { ⌜ (length (now excess) ≡ 128) × (length (now resistance) ≡ 128) × (length (now «stress_segment») ≡ 128) × (length (now «conductivity_segment») ≡ 128) ⌝ }
-    ensures { λ _. ⌜ now (excess .exit) ≡ filled (now (excess .entry)) count (excessAt (points m (now (void .entry)) (now (stress .entry))) (load .0) (now (burden .entry)) (now (solids .entry)) (now (water .entry))) ⌝ }
-    ensures { λ _. ⌜ now (resistance .exit) ≡ filled (now (resistance .entry)) count (resistanceAt (points n (now («conductivity_void» .entry)) (now (conductivity .entry))) (now (solids .entry)) (now (water .entry))) ⌝ }
-    ensures { λ _. ⌜ Segments count m (now («stress_segment» .entry)) (now («stress_segment» .exit)) ⌝ }
-    ensures { λ _. ⌜ Segments count n (now («conductivity_segment» .entry)) (now («conductivity_segment» .exit)) ⌝ }
+    ensures { λ _. ⌜ now (excess .exit) ≡ filled (now (excess .entry)) elements (excessAt (points (skeleton .points) (now (void .entry)) (now (stress .entry))) (load .0) (now (burden .entry)) (now (solids .entry)) (now (water .entry))) ⌝ }
+    ensures { λ _. ⌜ now (resistance .exit) ≡ filled (now (resistance .entry)) elements (resistanceAt (points «conductivity_points» (now («conductivity_void» .entry)) (now (conductivity .entry))) (now (solids .entry)) (now (water .entry))) ⌝ }
+    ensures { λ _. ⌜ Segments elements (skeleton .points) (now («stress_segment» .entry)) (now («stress_segment» .exit)) ⌝ }
+    ensures { λ _. ⌜ Segments elements «conductivity_points» (now («conductivity_segment» .entry)) (now («conductivity_segment» .exit)) ⌝ }
 {
     let mut j: usize = 0;
-    while j < count {
+    while j < elements {
         let one = read_element(
             load,
             burden[j],
             solids[j],
             water[j],
-            m,
+            skeleton,
             void,
             stress,
-            n,
+            conductivity_points,
             conductivity_void,
             conductivity,
             stress_segment[j],

@@ -8,11 +8,11 @@ use mathlib.Core.Path.{_≡_}
 use Rattle.element.specs.Elements.{Readable}
 use Rattle.layer.specs.Soil.{excessAt, resistanceAt}
 use Rattle.lent.specs.Standing.{curve, counted, soil, burden, sensitivity, low, high, on-soil, worked, shows}
-use Rattle.motion.proofs.TurningAt as turning
-use Rattle.motion.specs.Moving.{flowsIn, newHeights, staysOn}
+use Rattle.layer_step.proofs.TurningAt as turning
+use Rattle.layer_step.specs.Moving.{flowsIn, newHeights, staysOn}
 use Rattle.numbers.specs.Arrays.{zeros, filled, overlaid}
-use Rattle.reach.specs.Reach.{Limited, isTooLong}
-use Rattle.rules.specs.Curve.{Point, points, steepness}
+use Rattle.step_length.specs.Reach.{Limited, isTooLong}
+use Rattle.rules.specs.Curve.{Point, points, curveSteepness}
 use Rattle.rules.specs.Layer.{elements}
 use Rattle.rules.specs.Quantities.{stressLimits, waterLimits}
 use Rattle.rules.specs.Record.{recordSite, recordState, isLayer}
@@ -71,28 +71,28 @@ module _ (r : Record) (is : isLayer r ≡ true) where
   waters-most = turning.waters-most n (counted r is .0) m void stress k conductivityVoid conductivity (soil r is) load (burden r is) solids water (on-soil r is) (replicate 128 (pos 0)) (zeros 128)
 
   pub limited : Limited n resistances (sensitivity r is)
-  limited = turning.limited n (counted r is .0) m void stress k conductivityVoid conductivity (soil r is) load (burden r is) solids water (on-soil r is) (replicate 128 (pos 0)) (zeros 128) (sensitivity r is) (low r is) (high r is) (steepness (curve r is)) (worked r is)
+  limited = turning.limited n (counted r is .0) m void stress k conductivityVoid conductivity (soil r is) load (burden r is) solids water (on-soil r is) (replicate 128 (pos 0)) (zeros 128) (sensitivity r is) (low r is) (high r is) (curveSteepness (curve r is)) (worked r is)
 
   pub bounds-most : (j : ℕ) → j < n → (getD (low r is) j 0 ≤ waterLimits .most) × (getD (high r is) j 0 ≤ waterLimits .most)
-  bounds-most = turning.bounds-most n (counted r is .0) m void stress k conductivityVoid conductivity (soil r is) load (burden r is) solids water (on-soil r is) (replicate 128 (pos 0)) (zeros 128) (sensitivity r is) (low r is) (high r is) (steepness (curve r is)) (worked r is)
+  bounds-most = turning.bounds-most n (counted r is .0) m void stress k conductivityVoid conductivity (soil r is) load (burden r is) solids water (on-soil r is) (replicate 128 (pos 0)) (zeros 128) (sensitivity r is) (low r is) (high r is) (curveSteepness (curve r is)) (worked r is)
 
-  pub slope-range : (0 < steepness (curve r is)) × (steepness (curve r is) ≤ stressLimits .most)
-  slope-range = turning.slope-range n (counted r is .0) m void stress k conductivityVoid conductivity (soil r is) load (burden r is) solids water (on-soil r is) (replicate 128 (pos 0)) (zeros 128) (sensitivity r is) (low r is) (high r is) (steepness (curve r is)) (worked r is)
+  pub steepness-range : (0 < curveSteepness (curve r is)) × (curveSteepness (curve r is) ≤ stressLimits .most)
+  steepness-range = turning.steepness-range n (counted r is .0) m void stress k conductivityVoid conductivity (soil r is) load (burden r is) solids water (on-soil r is) (replicate 128 (pos 0)) (zeros 128) (sensitivity r is) (low r is) (high r is) (curveSteepness (curve r is)) (worked r is)
 
   -- a step of t seconds over these arrays is the rules'
   module _ (t : ℕ) where
-    pub too-long-is : isTooLong top bottom (steepness (curve r is)) n resistances (sensitivity r is) t ≡ tooLong (recordSite r) (recordState r) t
-    too-long-is = turning.too-long-is n (counted r is .0) m void stress k conductivityVoid conductivity (soil r is) load (burden r is) solids water (on-soil r is) (replicate 128 (pos 0)) (zeros 128) (sensitivity r is) (low r is) (high r is) (steepness (curve r is)) (worked r is) top bottom (recordSite r) (recordState r) (shows r is) t
+    pub too-long-is : isTooLong top bottom (curveSteepness (curve r is)) n resistances (sensitivity r is) t ≡ tooLong (recordSite r) (recordState r) t
+    too-long-is = turning.too-long-is n (counted r is .0) m void stress k conductivityVoid conductivity (soil r is) load (burden r is) solids water (on-soil r is) (replicate 128 (pos 0)) (zeros 128) (sensitivity r is) (low r is) (high r is) (curveSteepness (curve r is)) (worked r is) top bottom (recordSite r) (recordState r) (shows r is) t
 
     abbrev pub flows : List ℤ
     flows = flowsIn top bottom t n excesses resistances
 
     pub flows-are : flows ≡ upwardFlows top bottom t (elements (recordSite r) (recordState r))
     unfolding recordSite
-    flows-are = turning.flows-are n (counted r is .0) m void stress k conductivityVoid conductivity (soil r is) load (burden r is) solids water (on-soil r is) (replicate 128 (pos 0)) (zeros 128) (sensitivity r is) (low r is) (high r is) (steepness (curve r is)) (worked r is) top bottom (recordSite r) (recordState r) (shows r is) t
+    flows-are = turning.flows-are n (counted r is .0) m void stress k conductivityVoid conductivity (soil r is) load (burden r is) solids water (on-soil r is) (replicate 128 (pos 0)) (zeros 128) (sensitivity r is) (low r is) (high r is) (curveSteepness (curve r is)) (worked r is) top bottom (recordSite r) (recordState r) (shows r is) t
 
     pub leaves-is : leavesCurve (recordSite r) (recordState r) t ≡ not (staysOn (curve r is) n solids flows water)
-    leaves-is = turning.leaves-is n (counted r is .0) m void stress k conductivityVoid conductivity (soil r is) load (burden r is) solids water (on-soil r is) (replicate 128 (pos 0)) (zeros 128) (sensitivity r is) (low r is) (high r is) (steepness (curve r is)) (worked r is) top bottom (recordSite r) (recordState r) (shows r is) t
+    leaves-is = turning.leaves-is n (counted r is .0) m void stress k conductivityVoid conductivity (soil r is) load (burden r is) solids water (on-soil r is) (replicate 128 (pos 0)) (zeros 128) (sensitivity r is) (low r is) (high r is) (curveSteepness (curve r is)) (worked r is) top bottom (recordSite r) (recordState r) (shows r is) t
 
     pub stepped-is : overlaid (newHeights flows n water) water ≡ overlaid ((stepped (recordSite r) t (recordState r)) .water) water
-    stepped-is = turning.stepped-is n (counted r is .0) m void stress k conductivityVoid conductivity (soil r is) load (burden r is) solids water (on-soil r is) (replicate 128 (pos 0)) (zeros 128) (sensitivity r is) (low r is) (high r is) (steepness (curve r is)) (worked r is) top bottom (recordSite r) (recordState r) (shows r is) t
+    stepped-is = turning.stepped-is n (counted r is .0) m void stress k conductivityVoid conductivity (soil r is) load (burden r is) solids water (on-soil r is) (replicate 128 (pos 0)) (zeros 128) (sensitivity r is) (low r is) (high r is) (curveSteepness (curve r is)) (worked r is) top bottom (recordSite r) (recordState r) (shows r is) t

@@ -19,7 +19,7 @@ use Rattle.laws.specs.Rising.{lastAbscissa}
 use Rattle.layer.proofs.StepAt.{map-tabulate, on-curve-in}
 use Rattle.layer.specs.Soil.{Soil, OnSoil}
 use Rattle.layer.specs.Weights.{burdenAt}
-use Rattle.motion.specs.Turning.{Worked, Shows}
+use Rattle.layer_step.specs.Turning.{Worked, Shows}
 use Rattle.lent.specs.Burdens.{burdensIn}
 use Rattle.numbers.specs.Arrays.{tabulate, zeros, firstPlaces, filled}
 use Rattle.numbers.specs.Filled.{getD-filled, first-length}
@@ -27,7 +27,7 @@ use Rattle.numbers.specs.Indices.{every-at}
 use Rattle.numbers.specs.Searches.{passed, both, is-true}
 use Rattle.rules.proofs.Falling.{firstAbscissa}
 use Rattle.rules.proofs.Sound.{falls-down}
-use Rattle.rules.specs.Curve.{Point, points, isOn, steepness}
+use Rattle.rules.specs.Curve.{Point, points, isOn, curveSteepness}
 use Rattle.rules.specs.Layer as layer
 use Rattle.laws.specs.Amid.{Between}
 use Rattle.rules.specs.Layer.{State, Skeleton, skeletonOf, effectiveStress, burdens}
@@ -137,7 +137,7 @@ module _ (r : Record) (is : isLayer r ≡ true) where
       OnSoil m (r .soil .«compressibility_void») (r .soil .«compressibility_stress») (r .layer .progress .load .0) (getD burden j 0) (getD (r .layer .solids) j 0) (getD (r .layer .water) j 0)
   on-soil = on-soil-with (r .layer .progress .load .0) (r .layer .water) (state-is .load-between) stands
 
-  pub worked : Worked n curve (r .layer .solids) sensitivity low high (steepness curve)
+  pub worked : Worked n curve (r .layer .solids) sensitivity low high (curveSteepness curve)
   worked = record {
     sensitivities = λ j h. getD-filled (zeros 128) n (λ i. layer.sensitivity (getD (r .layer .solids) i 0)) j 0 h;
     bounded = record {
@@ -147,7 +147,7 @@ module _ (r : Record) (is : isLayer r ≡ true) where
       lows = λ j h. getD-filled (zeros 128) n (λ i. lowestWater (getD (r .layer .solids) i 0) (lastAbscissa curve)) j 0 h;
       highs = λ j h. getD-filled (zeros 128) n (λ i. highestWater (getD (r .layer .solids) i 0) (firstAbscissa curve)) j 0 h;
     };
-    slope-is = refl;
+    steepness-is = refl;
   }
 
   -- the arrays with any water show the record's site and any state that has it

@@ -16,14 +16,14 @@ use Rattle.laws.specs.Excess.{excesses-within}
 use Rattle.laws.specs.Outflow.{OuterWithin, outflow-within}
 use Rattle.laws.specs.Steep.{steep-positive}
 use Rattle.layer.specs.Soil.{OnSoil}
-use Rattle.motion.specs.Turning.{Worked, Shows}
+use Rattle.layer_step.specs.Turning.{Worked, Shows}
 use Rattle.numbers.specs.Arrays.{firstPlaces}
 use Rattle.numbers.specs.Filled.{first-length}
 use Rattle.numbers.specs.Interval.{Within}
 use Rattle.numbers.specs.Lists.{firstOr, lastOr}
 use Rattle.numbers.specs.Searches.{passed}
 use Rattle.laws.specs.Amid.{Between}
-use Rattle.rules.specs.Curve.{isOn, steepness}
+use Rattle.rules.specs.Curve.{isOn, curveSteepness}
 use Rattle.rules.specs.Layer.{Site, State, skeletonOf, elements, effectiveStress}
 use Rattle.rules.specs.Calls.{called}
 use Rattle.rules.specs.declared.answers.Answered.{Answered}
@@ -32,7 +32,7 @@ use Rattle.rules.specs.Quantities.{within, stepLimits, clockLimits, stressLimit
 use Rattle.rules.specs.Record.{recordSite, recordState, isLayer}
 use Rattle.rules.specs.Refusals.{_if_, firstCause}
 use Rattle.rules.specs.Run.{stepTaken}
-use Rattle.rules.specs.Step.{upwardFlows, stressSlope, tooLong, leavesCurve, stepRefusal}
+use Rattle.rules.specs.Step.{upwardFlows, siteSteepness, tooLong, leavesCurve, stepRefusal}
 use Rattle.rules.specs.declared.answers.Answer.the-variants.{Done, Refused}
 use Rattle.rules.specs.declared.answers.Call.the-variants.{Step}
 use Rattle.rules.specs.declared.answers.Refusal.{Refusal}
@@ -111,7 +111,7 @@ module _ (r : Record) (is : isLayer r ≡ true) where
   shows-with-as s water e w = rw e (shows-with r is s water w)
 
   pub worked-as : {c l h : List ℕ} {g : ℕ} → c ≡ sensitivity r is → l ≡ low r is →
-      h ≡ high r is → g ≡ steepness (curve r is) → Worked (r .layer .frame .elements) (curve r is) (r .layer .solids) c l h g
+      h ≡ high r is → g ≡ curveSteepness (curve r is) → Worked (r .layer .frame .elements) (curve r is) (r .layer .solids) c l h g
   worked-as p q u v = rw (p, q, u, v) (worked r is)
 
   pub shows-as : {b : List ℕ} → b ≡ burden r is →
@@ -128,7 +128,7 @@ within-as e h = rw e h
 pub outer-flows : (r : Record) (is : isLayer r ≡ true) (t : ℕ) → 1 ≤ t → tooLong (recordSite r) (recordState r) t ≡ false →
     OuterWithin t (firstOr (pos 0) (upwardFlows (r .layer .frame .top) (r .layer .frame .bottom) t (elements (recordSite r) (recordState r)))) ×
     OuterWithin t (lastOr (pos 0) (upwardFlows (r .layer .frame .top) (r .layer .frame .bottom) t (elements (recordSite r) (recordState r))))
-unfolding recordSite recordState firstPlaces stressSlope
+unfolding recordSite recordState firstPlaces siteSteepness
 outer-flows r is t h short =
     let n = (r .layer .frame .elements) in
     outflow-within (recordSite r) (recordState r) t h

@@ -9,7 +9,7 @@ use Rattle.laws.specs.SoundHeader.{kept-header}
 use Rattle.numbers.specs.Arrays.{zeros}
 use Rattle.numbers.specs.Filled.{length-filled, length-zeros}
 use Rattle.opening.specs.Lent.{descriptionOf}
-use Rattle.rules.specs.Job.{Description, described, field, firsts, headerKept, seconds}
+use Rattle.rules.specs.Job.{Description, described, field, firsts, headerSound, seconds}
 use Rattle.rules.specs.declared.job.Header.{Header}
 
 -- a header and the pairs of a description make it up
@@ -30,7 +30,7 @@ lent-described d e p = λ i. record {
 }
 
 -- the water of a job whose header is sound is an array's
-pub water-long : (job : List ℕ) → headerKept ((described job) .header) ≡ true → length ((described job) .water) ≡ 128
+pub water-long : (job : List ℕ) → headerSound ((described job) .header) ≡ true → length ((described job) .water) ≡ 128
 unfolding described seconds firsts
 water-long job kept =
     let few = kept-header ((described job) .header) kept .elements-kept .most in

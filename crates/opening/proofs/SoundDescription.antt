@@ -22,13 +22,13 @@ use Rattle.numbers.specs.Searches.{passed, both, is-true}
 use Rattle.numbers.specs.Signed.{signed}
 use Rattle.numbers.specs.Sums.{sum}
 use Rattle.opening.proofs.Checking.{none-tests}
-use Rattle.opening.specs.Accepting.{Starting, waterStarted}
+use Rattle.opening.specs.Accepting.{waterStarted}
 use Rattle.opening.specs.AcceptingLaws.{Accepts, burdensIn, header-within, off-accepts, start-accepts}
 use Rattle.opening.specs.Lent.{progressAt}
 use Rattle.rules.proofs.Points.{from-point}
 use Rattle.rules.specs.Curve.{Point, points, compressibilitySound}
-use Rattle.rules.specs.Job.{Description, describedCauses, fieldsSound, frameOf, givenWater, headerKept, jobSite}
-use Rattle.rules.specs.Layer.{Site, burdens}
+use Rattle.rules.specs.Job.{Description, describedCauses, fieldsSound, frameOf, givenWater, headerSound, jobSite}
+use Rattle.rules.specs.Layer.{skeletonOf, burdens}
 use Rattle.rules.specs.Load.{firstPoint}
 use Rattle.rules.specs.Opening.{descriptionWater, layerCauses}
 use Rattle.rules.specs.Quantities.{within, clockLimits, budgetLimits, levelLimits, solidsLimits, stressLimits, waterLimits, elementLimits}
@@ -41,7 +41,7 @@ use Rattle.start.proofs.Opened.{burdens-in}
 use Rattle.start.specs.Rest.{allOrNone}
 use Rattle.table.proofs.Laws.{tabled}
 
-module _ (d : Description) (header : headerKept d.header ≡ true) (sound : firstCause (describedCauses d) ≡ none) where
+module _ (d : Description) (header : headerSound d.header ≡ true) (sound : firstCause (describedCauses d) ≡ none) where
   abbrev n : ℕ
   n = d.header.elements
 
@@ -109,32 +109,28 @@ module _ (d : Description) (header : headerKept d.header ≡ true) (sound : firs
         (omega (arith, burdens-length d.header.gravity (firstPlaces n d.solids), first-length n d.solids)) in
         omega (arith, burden-at j h)
 
-    starting : Starting (jobSite d) n d.solids burden curve
-    unfolding jobSite
-    starting = record {
-      solids-held = refl;
-      burdens-held = burdens-in d.header.gravity n d.solids burden burden-at;
-      curve-held = refl;
-    }
-
     -- the water of its start, as it is found and as it is left in the array
     module _ (found : Bool) (after : List ℕ)
-        (finds : (site : Site) → Starting site n d.solids burden curve →
-        startWater site d.header.start (firstPlaces n d.water) load ≡ allOrNone found (firstPlaces n after))
-        (leaves : (site : Site) → Starting site n d.solids burden curve →
-        after ≡ waterStarted (startWater site d.header.start (firstPlaces n d.water) load) d.water) where
+        (finds : startWater (skeletonOf curve) (firstPlaces n burden) (firstPlaces n d.solids) d.header.start (firstPlaces n d.water) load ≡
+        allOrNone found (firstPlaces n after))
+        (leaves : after ≡
+        waterStarted (startWater (skeletonOf curve) (firstPlaces n burden) (firstPlaces n d.solids) d.header.start (firstPlaces n d.water) load) d.water) where
       none-first : firstCause (layerCauses d) ≡ none
       none-first = header-within d header ∙ sound
 
-      water-is : startWater (jobSite d) d.header.start (firstPlaces n d.water) load ≡ descriptionWater d
-      unfolding descriptionWater givenWater
-      water-is = ap (λ (q : ℕ). startWater (jobSite d) d.header.start (firstPlaces n d.water) q) load-is
+      water-is : startWater (skeletonOf curve) (firstPlaces n burden) (firstPlaces n d.solids) d.header.start (firstPlaces n d.water) load ≡
+          descriptionWater d
+      unfolding descriptionWater givenWater jobSite
+      water-is =
+          ap (λ (Bs : List ℕ). startWater (skeletonOf curve) Bs (firstPlaces n d.solids) d.header.start (firstPlaces n d.water) load)
+          (sym (burdens-in d.header.gravity n d.solids burden burden-at)) ∙
+          ap (λ (q : ℕ). startWater (skeletonOf curve) (burdens d.header.gravity (firstPlaces n d.solids)) (firstPlaces n d.solids) d.header.start (firstPlaces n d.water) q) load-is
 
       water-found : descriptionWater d ≡ allOrNone found (firstPlaces n after)
-      water-found = sym water-is ∙ finds (jobSite d) starting
+      water-found = sym water-is ∙ finds
 
       water-left : after ≡ waterStarted (descriptionWater d) d.water
-      water-left = leaves (jobSite d) starting ∙ ap (λ (o : Option (List ℕ)). waterStarted o d.water) water-is
+      water-left = leaves ∙ ap (λ (o : Option (List ℕ)). waterStarted o d.water) water-is
 
       -- cause 9
       pub off-curve : found ≡ false → Accepts d (Refused StartOffCurve) after (burdensIn d)

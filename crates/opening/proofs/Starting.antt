@@ -17,9 +17,8 @@ use Rattle.numbers.specs.Indices.{all-tabulate}
 use Rattle.numbers.specs.Indices as indices
 use Rattle.numbers.specs.Lists.{all}
 use Rattle.numbers.specs.Searches.{passed}
-use Rattle.opening.specs.Accepting.{Starting, waterStarted}
-use Rattle.rules.specs.Curve.{Point}
-use Rattle.rules.specs.Layer.{Site, skeletonOf}
+use Rattle.opening.specs.Accepting.{waterStarted}
+use Rattle.rules.specs.Layer.{Skeleton}
 use Rattle.rules.specs.Quantities.{waterLimits}
 use Rattle.rules.specs.Start.{restingFrom, startWater}
 use Rattle.rules.specs.Step.{allOnCurve}
@@ -29,19 +28,15 @@ use Rattle.start.specs.Rest.{allOrNone, restingHeights}
 
 -- ---- the water that is found
 
-module _ {site : Site} {n : ℕ} {solids burden : List ℕ} {curve : List Point} (held : Starting site n solids burden curve) (start : ℕ)
-    (given : List ℕ) (load : ℕ) where
+module _ (soil : Skeleton) (Bs Ss : List ℕ) (start : ℕ) (given : List ℕ) (load : ℕ) where
   -- start 0: what is given, by the test that all of it is on the curve
-  pub given-found : start ≡ 0 → {on : Bool} → on ≡ allOnCurve (skeletonOf curve) (firstPlaces n solids) (map pos given) →
-      startWater site start given load ≡ allOrNone on given
-  given-found e is =
-      given-start site start given load (eq-eqb start 0 e) ∙
-      ap (λ (on : Bool). allOrNone on given) (rw (held .solids-held, held .curve-held) (sym is))
+  pub given-found : start ≡ 0 → {on : Bool} → on ≡ allOnCurve soil Ss (map pos given) →
+      startWater soil Bs Ss start given load ≡ allOrNone on given
+  given-found e is = given-start soil Bs Ss start given load (eq-eqb start 0 e) ∙ ap (λ (on : Bool). allOrNone on given) (sym is)
 
   -- start 1: what rests
-  pub resting-found : (start ≡ 0 → ⊥) → startWater site start given load ≡ restingFrom site load (firstPlaces n burden) (firstPlaces n solids)
-  resting-found e =
-      resting-start site start given load (ne-eqb start 0 e) ∙ rw (held .burdens-held, held .solids-held)
+  pub resting-found : (start ≡ 0 → ⊥) → startWater soil Bs Ss start given load ≡ restingFrom soil load Bs Ss
+  resting-found e = resting-start soil Bs Ss start given load (ne-eqb start 0 e)
 
 -- ---- the array that is left
 
@@ -58,13 +53,13 @@ module _ (n : ℕ) (before : List ℕ) (few : n ≤ length before) where
   given-left false = refl
 
   -- start 1: heights from the lowest up, as far as the elements rest
-  module _ (curve : List Point) (load : ℕ) (burden solids after : List ℕ)
-      (is : after ≡ overlaid (restingHeights curve load (firstPlaces n burden) (firstPlaces n solids)) before) where
+  module _ (soil : Skeleton) (load : ℕ) (burden solids after : List ℕ)
+      (is : after ≡ overlaid (restingHeights soil load (firstPlaces n burden) (firstPlaces n solids)) before) where
     abbrev heights : List ℕ
-    heights = restingHeights curve load (firstPlaces n burden) (firstPlaces n solids)
+    heights = restingHeights soil load (firstPlaces n burden) (firstPlaces n solids)
 
     no-more : length heights ≤ n
-    no-more = omega (arith, heights-few curve load (firstPlaces n burden) (firstPlaces n solids), first-length n burden)
+    no-more = omega (arith, heights-few soil load (firstPlaces n burden) (firstPlaces n solids), first-length n burden)
 
     pub resting-long : length after ≡ length before
     resting-long = ap (λ (l : List ℕ). length l) is ∙ length-overlaid heights before (omega (arith, no-more))
@@ -75,14 +70,13 @@ module _ (n : ℕ) (before : List ℕ) (few : n ≤ length before) where
         go : (below : Bool) → ltb j (length heights) ≡ below → getD (overlaid heights before) j 0 ≤ waterLimits .most
         go true e =
             rw (getD-overlaid heights before j 0 (ltb-true _ _ e))
-            (every-at (λ W. W ≤ waterLimits .most) heights j 0 (heights-most curve load (firstPlaces n burden) (firstPlaces n solids)) (ltb-true _ _ e))
+            (every-at (λ W. W ≤ waterLimits .most) heights j 0 (heights-most soil load (firstPlaces n burden) (firstPlaces n solids)) (ltb-true _ _ e))
         go false e = rw (getD-overlaid-past heights before j 0 (ltb-false _ _ e)) (most j h)
 
     -- all rest
-    pub resting-left : (site : Site) → site .compressibility ≡ curve →
-        restingFrom site load (firstPlaces n burden) (firstPlaces n solids) ≡ some (firstPlaces n after) → after ≡ overlaid (firstPlaces n after) before
-    resting-left site same found =
-        resting-array site load (firstPlaces n burden) (firstPlaces n solids) (firstPlaces n after) before after found (rw same is)
+    pub resting-left : restingFrom soil load (firstPlaces n burden) (firstPlaces n solids) ≡ some (firstPlaces n after) →
+        after ≡ overlaid (firstPlaces n after) before
+    resting-left found = resting-array soil load (firstPlaces n burden) (firstPlaces n solids) (firstPlaces n after) before after found is
 
     -- one does not, and the heights are taken back, where no water was given
     pub cleared-left : all (λ w. eqb w 0) (firstPlaces n before) ≡ true → filled after n (λ _. 0) ≡ before

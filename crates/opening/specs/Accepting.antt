@@ -2,20 +2,11 @@
 use Prim.Native.Nat.{ℕ}
 use mathlib.Core.List.{List}
 use mathlib.Core.Option.{Option, none, some}
-use mathlib.Core.Path.{_≡_}
 use Rattle.layer.specs.Weights.{burdenAt}
-use Rattle.numbers.specs.Arrays.{firstPlaces, overlaid, filled}
-use Rattle.rules.specs.Curve.{Point}
+use Rattle.numbers.specs.Arrays.{overlaid, filled}
 use Rattle.rules.specs.Job.{Description}
-use Rattle.rules.specs.Layer.{Site, burdens}
 use Rattle.rules.specs.Opening.{layerCauses}
 use Rattle.rules.specs.Refusals.{firstCause}
-
--- the parts of a site that its start reads, as arrays hold them
-pub record Starting (site : Site) (n : ℕ) (solids burden : List ℕ) (curve : List Point) : Type 0 where
-  pub solids-held : site.solids ≡ firstPlaces n solids
-  pub burdens-held : burdens site.gravity site.solids ≡ firstPlaces n burden
-  pub curve-held : site.compressibility ≡ curve
 
 -- an array with the water of a start, or as it was where there is none
 unfoldable pub waterStarted : Option (List ℕ) → (before : List ℕ) → List ℕ

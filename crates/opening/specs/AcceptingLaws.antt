@@ -9,7 +9,7 @@ use Rattle.layer.specs.Weights.{burdenAt}
 use Rattle.numbers.specs.Arrays.{filled}
 use Rattle.numbers.specs.Sums.{sum}
 use Rattle.opening.specs.Accepting.{waterStarted, acceptedBurden}
-use Rattle.rules.specs.Job.{Description, describedCauses, frameOf, headerKept, jobSite}
+use Rattle.rules.specs.Job.{Description, describedCauses, frameOf, headerSound, jobSite}
 use Rattle.rules.specs.Opening.{accepted, acceptedWater, descriptionWater, layerCauses, startedWater}
 use Rattle.rules.specs.Record.{progressOf}
 use Rattle.rules.specs.Refusals.{firstCause}
@@ -26,11 +26,11 @@ refused-accepted cause frame progress e = let z : _≡_ {A = ℕ} 0 1 = cc in om
 
 module _ (d : Description) where
   -- cause 3, and the causes after it
-  pub header-outside : headerKept d.header ≡ false → firstCause (layerCauses d) ≡ some HeaderOutside
+  pub header-outside : headerSound d.header ≡ false → firstCause (layerCauses d) ≡ some HeaderOutside
   unfolding layerCauses firstCause
   header-outside e = rw (e, firstCause)
 
-  pub header-within : headerKept d.header ≡ true → firstCause (layerCauses d) ≡ firstCause (describedCauses d)
+  pub header-within : headerSound d.header ≡ true → firstCause (layerCauses d) ≡ firstCause (describedCauses d)
   unfolding layerCauses firstCause
   header-within e = rw (e, firstCause)
 

@@ -3,7 +3,7 @@ ghost use mathlib.Core.Bool.{true};
 ghost use mathlib.Core.Path.{_≡_};
 ghost use Rattle.opening.specs.Causes.{describedAnswer};
 ghost use Rattle.opening.specs.Lent.{descriptionOf};
-ghost use Rattle.rules.specs.Job.{Description, headerKept};
+ghost use Rattle.rules.specs.Job.{Description, headerSound};
 use crate::fields;
 use crate::fields::Fields;
 use points::checks;
@@ -31,18 +31,25 @@ pub fn described_cause<'a>(
 ) -> Checked
     ghost { Description }
     requires { λ d. ⌜ descriptionOf header (now void) (now stress) (now «conductivity_void») (now conductivity) (now solids) (now water) (now «table_time») (now «table_load») ≡ d ⌝ }
-    requires { λ d. ⌜ headerKept header ≡ true ⌝ }
+    requires { λ d. ⌜ headerSound header ≡ true ⌝ }
     ensures { λ d r. ⌜ r ≡ describedAnswer d ⌝ }
 {
-    let m = header.compressibility_points;
-    let k = header.conductivity_points;
+    let compressibility_points = header.compressibility_points;
+    let conductivity_points = header.conductivity_points;
     let Fields::Within(top_level, bottom_level) = fields::check_fields(header, solids, water) else {
         return Checked::Refused(Refusal::FieldOutside);
     };
-    if !checks::compressibility_sound(m, void, stress) {
+    if !checks::compressibility_sound(compressibility_points, void, stress) {
         return Checked::Refused(Refusal::CompressibilityCurve);
     }
-    if !checks::conductivity_sound(k, conductivity_void, conductivity, m, void, stress) {
+    if !checks::conductivity_sound(
+        conductivity_points,
+        conductivity_void,
+        conductivity,
+        compressibility_points,
+        void,
+        stress,
+    ) {
         return Checked::Refused(Refusal::ConductivityCurve);
     }
     if !table::table_sound(header.table_points, table_time, table_load) {

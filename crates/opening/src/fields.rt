@@ -5,7 +5,7 @@ ghost use Prim.Native.Nat.{ℕ, _≤_};
 ghost use Rattle.opening.specs.Causes.{fieldsAnswer};
 ghost use Rattle.opening.specs.Lent.{descriptionOf};
 ghost use Rattle.rules.specs.Quantities.{elementLimits};
-use holdings::sizes;
+use record_parts::sizes;
 use rules::job::Header;
 use rules::quantities::Budget;
 use rules::quantities::Clock;
@@ -25,7 +25,7 @@ pub fn check_fields<'a>(header: Header, solids: &'a [u64; 128], water: &'a [u64;
     requires { ⌜ header .elements ≤ elementLimits .most ⌝ }
     ensures { λ r. ⌜ ((void stress conductivityVoid conductivity tableTime tableLoad : List ℕ) → r ≡ fieldsAnswer (descriptionOf header void stress conductivityVoid conductivity (now (solids .entry)) (now (water .entry)) tableTime tableLoad)) ⌝ }
 {
-    let n = header.elements;
+    let elements = header.elements;
     let bottom = header.bottom;
     let start = header.start;
     let TestedHead::Within(top_level) = Head::new(header.top_level) else {
@@ -38,10 +38,10 @@ pub fn check_fields<'a>(header: Header, solids: &'a [u64; 128], water: &'a [u64;
         return Fields::Outside;
     };
     let sound = ((bottom != 0) | (header.bottom_level == 0))
-        & sizes::all_within(n, Kind::Solids, solids)
-        & sizes::all_within(n, Kind::Water, water)
-        & Budget::holds(header.budget)
-        & ((start == 0) | sizes::all_within(n, Kind::Zero, water));
+        & sizes::all_within(elements, Kind::Solids, solids)
+        & sizes::all_within(elements, Kind::Water, water)
+        & Budget::within(header.budget)
+        & ((start == 0) | sizes::all_within(elements, Kind::Zero, water));
     if sound {
         Fields::Within(top_level, bottom_level)
     } else {

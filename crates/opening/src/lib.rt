@@ -11,12 +11,12 @@ ghost use Rattle.rules.specs.Outcome.{answerNumbers};
 ghost use Rattle.rules.specs.Record.{recordOf};
 ghost use Rattle.rules.specs.declared.answers.Answer.the-variants.{Done};
 use crate::causes::Checked;
-use holdings::balance;
 use job::framing;
 use job::framing::Framed;
 use job::header;
 use job::pairs;
 use layer::weights;
+use record_parts::balance;
 use rules::answers::Acceptance;
 use rules::answers::Answer;
 use rules::answers::Answered;
@@ -26,6 +26,7 @@ use rules::record::Frame;
 use rules::record::Layer;
 use rules::record::Progress;
 use rules::record::Record;
+use rules::record::Skeleton;
 use rules::record::Soil;
 
 pub mod causes;
@@ -60,7 +61,7 @@ pub fn accept<'a>(
     ensures { λ d _. ⌜ now (water .exit) ≡ acceptedWater d ⌝ }
     ensures { λ d _. ⌜ now (burden .exit) ≡ acceptedBurden d (now (burden .entry)) ⌝ }
 {
-    if !header::header_kept(header) {
+    if !header::header_sound(header) {
         return Acceptance::Refused(Refusal::HeaderOutside);
     }
     let checked = causes::described_cause(
@@ -77,24 +78,26 @@ pub fn accept<'a>(
     match checked {
         Checked::Refused(cause) => Acceptance::Refused(cause),
         Checked::Sound(top_level, bottom_level) => {
-            let n = header.elements;
-            weights::burdens(n, header.gravity, solids, burden);
-            let m = header.compressibility_points;
+            let elements = header.elements;
+            weights::burdens(elements, header.gravity, solids, burden);
+            let skeleton = Skeleton {
+                points: header.compressibility_points,
+            };
             let load = table_load[0];
             if !starts::start_water(
                 header.start,
-                n,
+                elements,
                 load,
                 burden,
                 solids,
-                m,
+                skeleton,
                 void,
                 stress,
                 water,
             ) {
                 return Acceptance::Refused(Refusal::StartOffCurve);
             }
-            let starting = balance::total_water(n, water);
+            let starting = balance::total_water(elements, water);
             Acceptance::Accepted(
                 record::frame(header, top_level, bottom_level, starting),
                 record::opening_progress(load),

@@ -6,7 +6,7 @@ ghost use Rattle.opening.specs.Lent.{progressAt};
 ghost use Rattle.rules.specs.Job.{countsOf, frameOf, numberedFace};
 ghost use Rattle.rules.specs.Opening.{blankRecord};
 ghost use Rattle.rules.specs.Quantities.{levelLimits, stressLimits, head};
-use holdings::faces;
+use record_parts::faces;
 use rules::job::Header;
 use rules::quantities::Clock;
 use rules::quantities::Face;

@@ -7,11 +7,11 @@ use Rattle.points.specs.declared.checks.Trend.{Trend}
 use Rattle.points.specs.declared.checks.Trend.the-variants.{Falls, Rises, Later}
 
 -- a point whose abscissa and ordinate keep the limits of their kinds
-abbrev pub pointKept : (abscissa ordinate : Limits) → Point → Bool
-pointKept abscissa ordinate p = within abscissa (p .abscissa) && within ordinate (p .ordinate)
+abbrev pub pointWithin : (abscissa ordinate : Limits) → Point → Bool
+pointWithin abscissa ordinate p = within abscissa (p .abscissa) && within ordinate (p .ordinate)
 
 -- a segment of the compressibility curve, of the conductivity curve, and of the load table
-unfoldable pub trendKept : Trend → Point → Point → Bool
-trendKept Falls a b = ltb (a .ordinate) (b .ordinate) && ltb (b .abscissa) (a .abscissa)
-trendKept Rises a b = ltb (a .abscissa) (b .abscissa) && leb (a .ordinate) (b .ordinate)
-trendKept Later a b = ltb (a .abscissa) (b .abscissa)
+unfoldable pub follows : Trend → Point → Point → Bool
+follows Falls a b = ltb (a .ordinate) (b .ordinate) && ltb (b .abscissa) (a .abscissa)
+follows Rises a b = ltb (a .abscissa) (b .abscissa) && leb (a .ordinate) (b .ordinate)
+follows Later a b = ltb (a .abscissa) (b .abscissa)

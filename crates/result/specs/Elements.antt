@@ -82,7 +82,8 @@ module _ (soil : Skeleton) (level load : ℤ) where
   pub elements-length : (below : ℕ) (Bs Ss Ws : List ℕ) → length Ss ≡ length Bs → length Ws ≡ length Bs →
       length (elementsBytes soil level load below Bs Ss Ws) ≡ 40 * length Bs
   unfolding elementsBytes
-  elements-length below [] Ss Ws h k = refl
+  elements-length below [] [] Ws h k = refl
+  elements-length below [] (S ∷ Ss) Ws h k = absurd (omega arith)
   elements-length below (B ∷ Bs) [] Ws h k = absurd (omega arith)
   elements-length below (B ∷ Bs) (S ∷ Ss) [] h k = absurd (omega arith)
   elements-length below (B ∷ Bs) (S ∷ Ss) (W ∷ Ws) h k =

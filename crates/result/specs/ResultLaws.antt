@@ -25,7 +25,7 @@ use Rattle.rules.specs.Curve.{points}
 use Rattle.rules.specs.Layer.{skeletonOf, burdens}
 use Rattle.rules.specs.Record.{recordSite, recordState, isLayer}
 use Rattle.rules.specs.Refusals.{firstCause}
-use Rattle.rules.specs.Result.{headBytes, elementsBytes, settlement, resultHead, resultBytes, resultSize, resultRefusal, result, Returned, withheld}
+use Rattle.rules.specs.Result.{headBytes, elementsBytes, settlement, resultHead, resultBytes, resultSize, resultRefusal, result, Returned, refusedResult}
 use Rattle.rules.specs.Tally.{layerHeight}
 use Rattle.rules.specs.declared.answers.Refusal.{Refusal}
 use Rattle.rules.specs.declared.answers.Refusal.the-variants.{NoLayer, ShortBuffer}
@@ -124,23 +124,23 @@ module _ (r : Record) (room : ℕ) (is : isLayer r ≡ true) where
 module _ (r : Record) (stop : Stop) (steps : ℕ) (buffer : List ℕ) where
   by-refusal : (cause : Option Refusal) → resultRefusal r (length buffer) ≡ cause →
       result r stop steps buffer ≡ elim cause [
-        | some cause ↦ withheld cause buffer
+        | some cause ↦ refusedResult cause buffer
         | none ↦ record { number = 0; buffer = overlaid (resultBytes r stop steps) buffer }
       ]
   unfolding result
   by-refusal cause e =
       ap (λ (c : Option Refusal). elim c as (λ _. Returned) [
-        | some x ↦ withheld x buffer
+        | some x ↦ refusedResult x buffer
         | none ↦ record { number = 0; buffer = overlaid (resultBytes r stop steps) buffer }
       ]) e
 
   -- cause 11 comes first
-  pub no-layer : isLayer r ≡ false → result r stop steps buffer ≡ withheld NoLayer buffer
+  pub no-layer : isLayer r ≡ false → result r stop steps buffer ≡ refusedResult NoLayer buffer
   unfolding resultRefusal firstCause
   no-layer e = by-refusal (some NoLayer) (rw e)
 
   -- then 10
-  pub short-buffer : isLayer r ≡ true → length buffer < resultSize (r .layer .frame .elements) → result r stop steps buffer ≡ withheld ShortBuffer buffer
+  pub short-buffer : isLayer r ≡ true → length buffer < resultSize (r .layer .frame .elements) → result r stop steps buffer ≡ refusedResult ShortBuffer buffer
   short-buffer is h = by-refusal (some ShortBuffer) (refused-for-room r (length buffer) is h)
 
   pub result-written : isLayer r ≡ true → resultSize (r .layer .frame .elements) ≤ length buffer →

@@ -10,20 +10,21 @@ ghost use Rattle.rules.specs.Record.{soilOf, layerOf, recordOf, isLayer};
 ghost use Rattle.rules.specs.Refusals.{refusalNumber};
 ghost use Rattle.rules.specs.Result.{resultBytes, resultSize, result};
 ghost use Rattle.rules.specs.declared.record.Record.{Record};
-use holdings::balance;
 use layer::weights;
+use record_parts::balance;
 use rules::answers::Ended;
 use rules::answers::Refusal;
 use rules::answers::Stop;
 use rules::record::CurveCounts;
 use rules::record::Frame;
 use rules::record::Record;
+use rules::record::Skeleton;
 
 pub mod head;
 pub mod node;
 
 // The number returned where the key is withheld for a cause.
-pub fn withheld(cause: Refusal) -> u32
+pub fn refused(cause: Refusal) -> u32
     ensures { λ r. ⌜ r ≡ refusalNumber cause ⌝ }
 {
     answers::refusal_number(cause) as u32
@@ -59,21 +60,26 @@ pub fn write_lent<'a>(
     requires { λ _. ⌜ (now burden ≡ burdensIn frame (now solids)) × (resultSize (frame .elements) ≤ length (now out)) ⌝ }
     ensures { λ r _. ⌜ now (out .exit) ≡ overlaid (resultBytes r (ended .stop) (ended .steps)) (now (out .entry)) ⌝ }
 {
-    let n = frame.elements;
-    let m = counts.compressibility;
+    let elements = frame.elements;
+    let skeleton = Skeleton {
+        points: counts.compressibility,
+    };
     let progress = ended.progress;
     let load = progress.load;
     let top_level = frame.top_level;
-    let settlement = balance::settlement(frame.starting_water, balance::total_water(n, water));
-    head::write_head(out, n, ended, settlement);
+    let settlement = balance::settlement(
+        frame.starting_water,
+        balance::total_water(elements, water),
+    );
+    head::write_head(out, elements, ended, settlement);
     node::write_elements(
-        n,
+        elements,
         load,
         top_level,
         burden,
         solids,
         water,
-        m,
+        skeleton,
         void,
         stress,
         out,
@@ -117,11 +123,11 @@ pub fn write_result(r: Record, stop: Stop, steps: u64, out: &mut [u8]) -> u32
     ensures { λ number. ⌜ number ≡ (result r stop steps (now (out .entry))) .number ⌝ }
     ensures { λ _. ⌜ now (out .exit) ≡ (result r stop steps (now (out .entry))) .buffer ⌝ }
 {
-    if !sound::record::is_layer(r) {
-        return withheld(Refusal::NoLayer);
+    if !layer_test::record::is_layer(r) {
+        return refused(Refusal::NoLayer);
     }
     if out.len() < result_size(r.layer.frame.elements) {
-        return withheld(Refusal::ShortBuffer);
+        return refused(Refusal::ShortBuffer);
     }
     write_layer(r, stop, steps, out);
     0

@@ -16,6 +16,7 @@ ghost use Rattle.rules.specs.Layer.{skeletonOf};
 use curves::reading;
 use rules::quantities::Head;
 use rules::quantities::Pressure;
+use rules::record::Skeleton;
 
 // z of an element over the height of all below.
 pub fn node_height(below: u64, solids: u64, water: u64) -> u64
@@ -66,18 +67,18 @@ pub fn write_element<'a>(
     burden: u64,
     solids: u64,
     water: u64,
-    m: usize,
+    skeleton: Skeleton,
     void: &'a [u64; 64],
     stress: &'a [u64; 64],
 )
     requires { ⌜ at + 40 ≤ length (now out) ⌝ }
     requires { ⌜ (below ≤ mostHeight) × (withinℤ levelLimits («top_level» .0) ≡ true) ⌝ }
-    requires { ⌜ (curveLimits .least ≤ m) × (m ≤ curveLimits .most) ⌝ }
-    requires { ⌜ compressibilitySound (points m (now void) (now stress)) ≡ true ⌝ }
-    requires { ⌜ OnSoil m (now void) (now stress) (load .0) burden solids water ⌝ }
-    ensures { λ _. ⌜ now (out .exit) ≡ sets (now (out .entry)) at (elementBytes (skeletonOf (points m (now (void .entry)) (now (stress .entry)))) («top_level» .0) (load .0) below burden solids water) ⌝ }
+    requires { ⌜ (curveLimits .least ≤ (skeleton .points)) × ((skeleton .points) ≤ curveLimits .most) ⌝ }
+    requires { ⌜ compressibilitySound (points (skeleton .points) (now void) (now stress)) ≡ true ⌝ }
+    requires { ⌜ OnSoil (skeleton .points) (now void) (now stress) (load .0) burden solids water ⌝ }
+    ensures { λ _. ⌜ now (out .exit) ≡ sets (now (out .entry)) at (elementBytes (skeletonOf (points (skeleton .points) (now (void .entry)) (now (stress .entry)))) («top_level» .0) (load .0) below burden solids water) ⌝ }
 {
-    let found = element::effective_stress(solids, water, m, void, stress, 0);
+    let found = element::effective_stress(solids, water, skeleton, void, stress, 0);
     let value = found.value;
     let effective = reading::value_of(value);
     let excess = element::excess_pressure(load, burden, effective);
@@ -94,27 +95,27 @@ pub fn write_element<'a>(
 
 // Stores all elements from byte 56 on.
 pub fn write_elements<'a>(
-    n: usize,
+    elements: usize,
     load: Pressure,
     top_level: Head,
     burden: &'a [u64; 128],
     solids: &'a [u64; 128],
     water: &'a [u64; 128],
-    m: usize,
+    skeleton: Skeleton,
     void: &'a [u64; 64],
     stress: &'a [u64; 64],
     out: &mut [u8],
 )
-    requires { ⌜ (n ≤ elementLimits .most) × (56 + 40 * n ≤ length (now out)) ⌝ }
+    requires { ⌜ (elements ≤ elementLimits .most) × (56 + 40 * elements ≤ length (now out)) ⌝ }
     requires { ⌜ withinℤ levelLimits («top_level» .0) ≡ true ⌝ }
-    requires { ⌜ (curveLimits .least ≤ m) × (m ≤ curveLimits .most) ⌝ }
-    requires { ⌜ compressibilitySound (points m (now void) (now stress)) ≡ true ⌝ }
-    requires { ⌜ ((j : ℕ) → j < n → OnSoil m (now void) (now stress) (load .0) (getD (now burden) j 0) (getD (now solids) j 0) (getD (now water) j 0)) ⌝ }
-    ensures { λ _. ⌜ now (out .exit) ≡ sets (now (out .entry)) 56 (elementsBytes (skeletonOf (points m (now (void .entry)) (now (stress .entry)))) («top_level» .0) (load .0) 0 (firstPlaces n (now (burden .entry))) (firstPlaces n (now (solids .entry))) (firstPlaces n (now (water .entry)))) ⌝ }
+    requires { ⌜ (curveLimits .least ≤ (skeleton .points)) × ((skeleton .points) ≤ curveLimits .most) ⌝ }
+    requires { ⌜ compressibilitySound (points (skeleton .points) (now void) (now stress)) ≡ true ⌝ }
+    requires { ⌜ ((j : ℕ) → j < elements → OnSoil (skeleton .points) (now void) (now stress) (load .0) (getD (now burden) j 0) (getD (now solids) j 0) (getD (now water) j 0)) ⌝ }
+    ensures { λ _. ⌜ now (out .exit) ≡ sets (now (out .entry)) 56 (elementsBytes (skeletonOf (points (skeleton .points) (now (void .entry)) (now (stress .entry)))) («top_level» .0) (load .0) 0 (firstPlaces elements (now (burden .entry))) (firstPlaces elements (now (solids .entry))) (firstPlaces elements (now (water .entry)))) ⌝ }
 {
     let mut below: u64 = 0;
     let mut j: usize = 0;
-    while j < n {
+    while j < elements {
         write_element(
             out,
             56 + 40 * j,
@@ -124,7 +125,7 @@ pub fn write_elements<'a>(
             burden[j],
             solids[j],
             water[j],
-            m,
+            skeleton,
             void,
             stress,
         );

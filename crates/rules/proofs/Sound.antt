@@ -10,7 +10,7 @@ use mathlib.Core.Path.{_≡_, refl}
 use Rattle.numbers.specs.Lists.{all}
 use Rattle.numbers.specs.Rounding.{ceil}
 use Rattle.numbers.specs.Searches.{passed, both}
-use Rattle.rules.specs.Curve.{Point, points, falling, rising, covers, compressibilitySound, conductivitySound, steepness}
+use Rattle.rules.specs.Curve.{Point, points, falling, rising, covers, compressibilitySound, conductivitySound, curveSteepness}
 use Rattle.rules.specs.Quantities.{within, stressLimits, voidLimits, conductivityLimits}
 use Rattle.rules.proofs.Limits.{within-parts}
 use Rattle.rules.proofs.Points.{from-segment, from-point, from-end, from-last, all-at, neighbours-at}
@@ -100,15 +100,15 @@ module _ (n : ℕ) (void conductivity : List ℕ) (first : List Point) (sound : 
 
 -- steepness from an index on
 module _ (n : ℕ) (xs ys : List ℕ) (i : ℕ) where
-  pub steepness-step : i + 1 < n → steepness (drop i (points n xs ys)) ≡
-      max (ceil (getD ys (i + 1) 0 - getD ys i 0) (getD xs i 0 - getD xs (i + 1) 0)) (steepness (drop (i + 1) (points n xs ys)))
-  unfolding steepness
+  pub steepness-step : i + 1 < n → curveSteepness (drop i (points n xs ys)) ≡
+      max (ceil (getD ys (i + 1) 0 - getD ys i 0) (getD xs i 0 - getD xs (i + 1) 0)) (curveSteepness (drop (i + 1) (points n xs ys)))
+  unfolding curveSteepness
   steepness-step h = rw (from-segment n xs ys i h, from-point n xs ys (i + 1) h)
 
-  pub steepness-end : n ≤ i + 1 → steepness (drop i (points n xs ys)) ≡ 0
-  unfolding steepness
+  pub steepness-end : n ≤ i + 1 → curveSteepness (drop i (points n xs ys)) ≡ 0
+  unfolding curveSteepness
   steepness-end h = go (leb n i) refl
     where
-      go : (c : Bool) → leb n i ≡ c → steepness (drop i (points n xs ys)) ≡ 0
+      go : (c : Bool) → leb n i ≡ c → curveSteepness (drop i (points n xs ys)) ≡ 0
       go true e = rw (from-end n xs ys i (leb-true n i e))
       go false e = let k = leb-false n i e in rw (from-last n xs ys i (omega arith))

@@ -80,8 +80,8 @@ conductivitySound conductivity compressibility =
     rising conductivity && covers conductivity compressibility
 
 -- G: the largest ceil(stress rise / void fall) of the compressibility curve's segments
-unfoldable pub steepness : List Point → ℕ
+unfoldable pub curveSteepness : List Point → ℕ
 unfolding ceil
-steepness [] = 0
-steepness (a ∷ []) = 0
-steepness (a ∷ b ∷ rest) = max (ceil (b.ordinate - a.ordinate) (a.abscissa - b.abscissa)) (steepness (b ∷ rest))
+curveSteepness [] = 0
+curveSteepness (a ∷ []) = 0
+curveSteepness (a ∷ b ∷ rest) = max (ceil (b.ordinate - a.ordinate) (a.abscissa - b.abscissa)) (curveSteepness (b ∷ rest))

@@ -12,7 +12,7 @@ use Rattle.rules.specs.Quantities.{within, clockLimits, budgetLimits, he
 use Rattle.rules.specs.Curve.{points, compressibilitySound, conductivitySound}
 use Rattle.rules.specs.Layer.{Site, topPressure, bottomPressure}
 use Rattle.rules.specs.Load.{tableSound}
-use Rattle.rules.specs.Record.{headerSound, sizesSound}
+use Rattle.rules.specs.Record.{formSound, sizesSound}
 use Rattle.rules.specs.Refusals.{Trial, _if_}
 use Rattle.rules.specs.declared.answers.Refusal.the-variants.{ShortOrUnmarked, OtherVersion, HeaderOutside, WrongLength, FieldOutside, CompressibilityCurve, ConductivityCurve, LoadTable}
 use Rattle.rules.specs.declared.job.Header.{Header}
@@ -152,20 +152,20 @@ jobLength h =
     headerLength + pairLength * (h.elements + h .«compressibility_points» + h .«conductivity_points» + h .«table_points»)
 
 -- cause 3, of a header: bytes 5 to 13
-unfoldable pub headerKept : Header → Bool
-unfolding headerSound
-headerKept h =
-    headerSound h.top h.bottom h.elements (h .«compressibility_points») (h .«conductivity_points») (h .«table_points») h.start
+unfoldable pub headerSound : Header → Bool
+unfolding formSound
+headerSound h =
+    formSound h.top h.bottom h.elements (h .«compressibility_points») (h .«conductivity_points») (h .«table_points») h.start
     h.gravity
 
 -- the causes 1 to 4, of a job's bytes
 unfoldable pub framingCauses : List ℕ → List Trial
-unfolding described marked field headerKept jobLength
+unfolding described marked field headerSound jobLength
 framingCauses job =
     let h = (described job) .header in
     (ShortOrUnmarked if (ltb (length job) headerLength || not (marked job))) ∷
     (OtherVersion if not (eqb (field 2 3 job) 1)) ∷
-    (HeaderOutside if (not (headerKept h) || not (eqb (field 2 14 job) 0))) ∷
+    (HeaderOutside if (not (headerSound h) || not (eqb (field 2 14 job) 0))) ∷
     (WrongLength if not (eqb (length job) (jobLength h))) ∷ []
 
 -- the causes 5 to 8, of what they say

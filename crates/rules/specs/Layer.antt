@@ -2,6 +2,7 @@
 use Prim.Native.Nat.{ℕ, _+_, _-_, _*_}
 use lib.IntN.{ℤ, pos, _+ℤ_, _-ℤ_}
 use mathlib.Core.List.{List, [], _∷_, map}
+use Rattle.numbers.specs.Lists.{tripled}
 use Rattle.numbers.specs.Rounding.{floor, ceil}
 use Rattle.numbers.specs.Sums.{sum}
 use Rattle.rules.specs.Quantities.{voidUnit, head, pressure, pressureOf}
@@ -121,11 +122,8 @@ element site load B S W = record {
 }
 
 unfoldable pub elementsFrom : Site → (load : ℤ) (Bs Ss Ws : List ℕ) → List Element
-unfolding element
-elementsFrom site load [] Ss Ws = []
-elementsFrom site load (B ∷ Bs) [] Ws = []
-elementsFrom site load (B ∷ Bs) (S ∷ Ss) [] = []
-elementsFrom site load (B ∷ Bs) (S ∷ Ss) (W ∷ Ws) = element site load B S W ∷ elementsFrom site load Bs Ss Ws
+unfolding element tripled
+elementsFrom site load Bs Ss Ws = tripled (element site load) Bs Ss Ws
 
 -- all elements of the layer
 unfoldable pub elements : Site → State → List Element

@@ -7,12 +7,12 @@ use mathlib.Core.Option.{Option, none, some}
 use Rattle.numbers.specs.Arrays.{zeros, overlaid}
 use Rattle.numbers.specs.Sums.{sum}
 use Rattle.rules.specs.Quantities.{head}
-use Rattle.rules.specs.Layer.{State}
+use Rattle.rules.specs.Layer.{State, skeleton, burdens}
 use Rattle.rules.specs.Start.{startWater, openingLoad, openingState}
 use Rattle.rules.specs.Outcome.{Numbers, answerNumbers}
 use Rattle.rules.specs.Refusals.{Trial, _if_, firstCause}
 use Rattle.rules.specs.Record.{soilOf, layerOf, recordOf, progressOf}
-use Rattle.rules.specs.Job.{Description, described, countsOf, frameOf, jobSite, givenWater, headerKept, describedCauses, jobCauses}
+use Rattle.rules.specs.Job.{Description, described, countsOf, frameOf, jobSite, givenWater, headerSound, describedCauses, jobCauses}
 use Rattle.rules.specs.declared.answers.Acceptance.{Acceptance}
 use Rattle.rules.specs.declared.answers.Answer.the-variants.{Done, Refused}
 use Rattle.rules.specs.declared.answers.Answered.{Answered}
@@ -54,8 +54,10 @@ refusedOpening cause = record { answer = Refused cause; after = blankRecord }
 
 -- the water of a description's start
 unfoldable pub descriptionWater : Description → Option (List ℕ)
-unfolding startWater jobSite givenWater openingLoad
-descriptionWater d = startWater (jobSite d) d.header.start (givenWater d) (openingLoad (jobSite d))
+unfolding startWater burdens jobSite givenWater openingLoad
+descriptionWater d =
+    let site = jobSite d in
+    startWater (skeleton site) (burdens (site .gravity) (site .solids)) (site .solids) d.header.start (givenWater d) (openingLoad site)
 
 -- what opening answers and leaves: causes 1 to 8, then 9
 unfoldable pub opening : List ℕ → Answered
@@ -76,8 +78,8 @@ openingNumbers job = answerNumbers ((opening job) .answer)
 
 -- the causes that are tested of a description, which has no bytes: 3, and 5 to 8
 unfoldable pub layerCauses : Description → List Trial
-unfolding headerKept describedCauses
-layerCauses d = (HeaderOutside if not (headerKept d.header)) ∷ describedCauses d
+unfolding headerSound describedCauses
+layerCauses d = (HeaderOutside if not (headerSound d.header)) ∷ describedCauses d
 
 -- the numbers of a description's layer, or why there is none: those causes, then 9
 unfoldable pub accepted : Description → Acceptance

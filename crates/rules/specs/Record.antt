@@ -30,10 +30,10 @@ faceNumber Closed = 0
 faceNumber (Drained held) = 1
 
 -- cause 3, of the numbers of a job's bytes 5 to 13
-unfoldable pub headerSound :
+unfoldable pub formSound :
     (top bottom elements compressibilityPoints conductivityPoints tablePoints start gravity : ℕ) → Bool
 unfolding within
-headerSound top bottom elements compressibilityPoints conductivityPoints tablePoints start gravity =
+formSound top bottom elements compressibilityPoints conductivityPoints tablePoints start gravity =
     within flagLimits top && within flagLimits bottom && within elementLimits elements &&
     within curveLimits compressibilityPoints && within curveLimits conductivityPoints && within tableLimits tablePoints &&
     within flagLimits start && within gravityLimits gravity
@@ -135,17 +135,17 @@ faceHolds Closed held = true
 faceHolds (Drained other) held = eqℤ (other .0) (held .0)
 
 -- an outflow keeps its bound
-unfoldable pub outflowSound : (outflow : ℤ) (clock : ℕ) → Bool
-outflowSound outflow clock = leb (natAbs outflow) (outflowRate * clock)
+unfoldable pub outflowWithin : (outflow : ℤ) (clock : ℕ) → Bool
+outflowWithin outflow clock = leb (natAbs outflow) (outflowRate * clock)
 
 -- what a record holds of a job meets the causes 3 and 5 to 8, and its faces hold 0 and P
 unfoldable pub siteSound : Record → Bool
-unfolding recordSite recordState headerSound faceNumber sizesSound compressibilitySound conductivitySound tableSound faceHolds
+unfolding recordSite recordState formSound faceNumber sizesSound compressibilitySound conductivitySound tableSound faceHolds
     topPressure bottomPressure
 siteSound r =
     let site = recordSite r in
     let frame = r .layer .frame in
-    headerSound (faceNumber (frame .top)) (faceNumber (frame .bottom)) (frame .elements) (r .soil .counts .compressibility)
+    formSound (faceNumber (frame .top)) (faceNumber (frame .bottom)) (frame .elements) (r .soil .counts .compressibility)
     (r .soil .counts .conductivity) (frame .«table_points») 0 (frame .gravity) &&
     sizesSound site ((recordState r) .water) && compressibilitySound (site .compressibility) &&
     conductivitySound (site .conductivity) (site .compressibility) && tableSound (site .loadTable) &&
@@ -153,14 +153,14 @@ siteSound r =
 
 -- all its water is on the curve, load and clock keep their limits, the outflows theirs, and the water balances
 unfoldable pub stateSound : Record → Bool
-unfolding recordSite recordState allOnCurve within withinℤ sum outflowSound
+unfolding recordSite recordState allOnCurve within withinℤ sum outflowWithin
 stateSound r =
     let site = recordSite r in
     let s = recordState r in
     let starting = r .layer .frame .«starting_water» in
     allOnCurve (skeleton site) (site .solids) (map pos (s .water)) && withinℤ stressLimits (s .load) &&
     within clockLimits (s .clock) && within startingWaterLimits starting &&
-    outflowSound (s .topOutflow) (s .clock) && outflowSound (s .bottomOutflow) (s .clock) &&
+    outflowWithin (s .topOutflow) (s .clock) && outflowWithin (s .bottomOutflow) (s .clock) &&
     eqℤ (pos starting) (pos (sum (s .water)) +ℤ s .topOutflow +ℤ s .bottomOutflow)
 
 -- a record is a layer

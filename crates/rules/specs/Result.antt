@@ -9,6 +9,7 @@ use mathlib.Core.Option.{Option, none, some}
 use Rattle.numbers.specs.Arrays.{overlaid}
 use Rattle.numbers.specs.Bytes.{bytes}
 use Rattle.numbers.specs.Integers.{up, signedField}
+use Rattle.numbers.specs.Lists.{paired, tripled, appended}
 use Rattle.numbers.specs.Rounding.{floor}
 use Rattle.numbers.specs.Sums.{sum}
 use Rattle.rules.specs.Quantities.{head, pressureOf}
@@ -62,14 +63,16 @@ unfolding elementWords voidRatio effectiveStress valueOf porePressure
 elementBytes soil topLevel load below B S W =
     elementWords W (voidRatio S W) (valueOf (effectiveStress soil S W)) (porePressure soil topLevel load below B S W)
 
+-- the height below each element, from that below the lowest
+unfoldable pub heightsBelow : (below : ℕ) (Ss Ws : List ℕ) → List ℕ
+heightsBelow below [] Ws = []
+heightsBelow below (S ∷ Ss) [] = []
+heightsBelow below (S ∷ Ss) (W ∷ Ws) = below ∷ heightsBelow (below + height S W) Ss Ws
+
 unfoldable pub elementsBytes : Skeleton → (topLevel load : ℤ) (below : ℕ) (Bs Ss Ws : List ℕ) → List ℕ
-unfolding elementBytes
-elementsBytes soil topLevel load below [] Ss Ws = []
-elementsBytes soil topLevel load below (B ∷ Bs) [] Ws = []
-elementsBytes soil topLevel load below (B ∷ Bs) (S ∷ Ss) [] = []
-elementsBytes soil topLevel load below (B ∷ Bs) (S ∷ Ss) (W ∷ Ws) =
-    elementBytes soil topLevel load below B S W ++
-    elementsBytes soil topLevel load (below + height S W) Bs Ss Ws
+unfolding elementBytes heightsBelow appended tripled paired
+elementsBytes soil topLevel load below Bs Ss Ws =
+    appended (paired (λ f W. f W) (tripled (elementBytes soil topLevel load) (heightsBelow below Ss Ws) Bs Ss) Ws)
 
 -- the starting height less the present one
 unfoldable pub settlement : Record → ℤ
@@ -109,15 +112,15 @@ pub record Returned : Type 0 where
   pub number : ℕ
   pub buffer : List ℕ
 
-unfoldable pub withheld : Refusal → (buffer : List ℕ) → Returned
+unfoldable pub refusedResult : Refusal → (buffer : List ℕ) → Returned
 unfolding refusalNumber
-withheld cause buffer = record { number = refusalNumber cause; buffer = buffer }
+refusedResult cause buffer = record { number = refusalNumber cause; buffer = buffer }
 
 -- a result handed to a buffer: its first places are written, or none
 unfoldable pub result : Record → Stop → (steps : ℕ) (buffer : List ℕ) → Returned
-unfolding resultRefusal withheld resultBytes overlaid
+unfolding resultRefusal refusedResult resultBytes overlaid
 result r stop steps buffer =
     elim (resultRefusal r (length buffer)) [
-      | some cause ↦ withheld cause buffer
+      | some cause ↦ refusedResult cause buffer
       | none ↦ record { number = 0; buffer = overlaid (resultBytes r stop steps) buffer }
     ]

@@ -5,10 +5,10 @@ use lib.IntN.{pos}
 use mathlib.Core.Bool.{Bool, true, false}
 use mathlib.Core.List.{List, [], _∷_, map}
 use mathlib.Core.Option.{Option, none, some}
-use Rattle.numbers.specs.Lists.{least, lastOr}
+use Rattle.numbers.specs.Lists.{least, lastOr, paired, allSome}
 use Rattle.rules.specs.Quantities.{waterLimits}
 use Rattle.rules.specs.Curve.{Point, point}
-use Rattle.rules.specs.Layer.{Site, State, Skeleton, skeleton, effectiveStress, burdens}
+use Rattle.rules.specs.Layer.{Site, State, Skeleton, effectiveStress}
 use Rattle.rules.specs.Step.{allOnCurve}
 use Rattle.rules.specs.Load.{firstPoint}
 use Rattle.rules.specs.declared.quantities.CurveValue.{CurveValue}
@@ -34,30 +34,25 @@ unfoldable pub lastStress : List Point → ℕ
 unfolding lastOr
 lastStress curve = (lastOr (point 0 0) curve) .ordinate
 
-unfoldable pub prepended : Option ℕ → Option (List ℕ) → Option (List ℕ)
-prepended none rest = none
-prepended (some a) none = none
-prepended (some a) (some rest) = some (a ∷ rest)
-
--- the resting water of each element under load + B, where that is not above the last stress
+-- the resting water of an element under load + B, where that is not above the last stress
 -- (`restingWater` stays shut here: a search over a billion heights is cited and never computed)
-unfoldable pub restingFrom : Site → (load : ℕ) (Bs Ss : List ℕ) → Option (List ℕ)
-unfolding lastStress prepended
-restingFrom site load [] Ss = some []
-restingFrom site load (B ∷ Bs) [] = some []
-restingFrom site load (B ∷ Bs) (S ∷ Ss) =
-    elim (leb (load + B) (lastStress site.compressibility)) [
-      | true ↦ prepended (restingWater (skeleton site) S (load + B)) (restingFrom site load Bs Ss)
-      | false ↦ none
-    ]
+unfoldable pub restingUnder : Skeleton → (load B S : ℕ) → Option ℕ
+unfolding lastStress
+restingUnder soil load B S =
+    elim (leb (load + B) (lastStress soil.compressibility)) [ true ↦ restingWater soil S (load + B) | false ↦ none ]
+
+-- that of every element
+unfoldable pub restingFrom : Skeleton → (load : ℕ) (Bs Ss : List ℕ) → Option (List ℕ)
+unfolding allSome paired restingUnder
+restingFrom soil load Bs Ss = allSome (paired (restingUnder soil load) Bs Ss)
 
 -- the water of start 0, as given, and of start 1, at rest under a load; none where cause 9 holds
-unfoldable pub startWater : Site → (start : ℕ) (given : List ℕ) (load : ℕ) → Option (List ℕ)
-unfolding allOnCurve restingFrom burdens
-startWater site start given load =
+unfoldable pub startWater : Skeleton → (Bs Ss : List ℕ) (start : ℕ) (given : List ℕ) (load : ℕ) → Option (List ℕ)
+unfolding allOnCurve restingFrom
+startWater soil Bs Ss start given load =
     elim (eqb start 0) [
-      | true ↦ elim (allOnCurve (skeleton site) site.solids (map pos given)) [ true ↦ some given | false ↦ none ]
-      | false ↦ restingFrom site load (burdens site.gravity site.solids) site.solids
+      | true ↦ elim (allOnCurve soil Ss (map pos given)) [ true ↦ some given | false ↦ none ]
+      | false ↦ restingFrom soil load Bs Ss
     ]
 
 -- the state of a layer just opened with some water

@@ -2,13 +2,14 @@
 use Prim.Native.Nat.{ℕ, _+_, _*_}
 use lib.Dec.{ltb}
 use lib.IntN.{ℤ, pos, negsuc, negℤ, _+ℤ_, _-ℤ_, _*ℤ_}
+use lib.ListN.{drop}
 use mathlib.Core.Bool.{Bool, false, not, _||_}
 use mathlib.Core.List.{List, [], _∷_, _++_}
 use mathlib.Core.Option.{Option}
 use Rattle.numbers.specs.Rounding.{cut}
-use Rattle.numbers.specs.Lists.{all, any, paired, firstOr, lastOr}
+use Rattle.numbers.specs.Lists.{all, any, paired, tripled, firstOr, lastOr}
 use Rattle.rules.specs.Quantities.{within, stepLimits, clockLimits}
-use Rattle.rules.specs.Curve.{steepness, isOn}
+use Rattle.rules.specs.Curve.{curveSteepness, isOn}
 use Rattle.rules.specs.Layer.{Site, State, Skeleton, skeleton, Element, elements, effectiveStress}
 use Rattle.rules.specs.Refusals.{_if_, firstCause}
 use Rattle.rules.specs.declared.quantities.Face.{Face}
@@ -49,10 +50,8 @@ upwardFlows top bottom t (e ∷ rest) = negℤ (outward bottom t e) ∷ flowsAbo
 
 -- the new water, on the curve or not: less what leaves by the upper face, and what enters by the lower
 unfoldable pub moved : (flows : List ℤ) (water : List ℕ) → List ℤ
-moved [] ws = []
-moved (below ∷ []) ws = []
-moved (below ∷ above ∷ rest) [] = []
-moved (below ∷ above ∷ rest) (w ∷ ws) = (pos w -ℤ above +ℤ below) ∷ moved (above ∷ rest) ws
+unfolding tripled
+moved flows water = tripled (λ below above W. pos W -ℤ above +ℤ below) flows (drop 1 flows) water
 
 -- the height of an element's water after a step. None goes below 0: such a step is refused, and the height stays
 unfoldable pub newHeight : (old : ℕ) (new : ℤ) → ℕ
@@ -73,9 +72,9 @@ stepped site t s =
     }
 
 -- the most by which the effective stress falls for each unit of void ratio: G
-unfoldable pub stressSlope : Site → ℕ
-unfolding steepness
-stressSlope site = steepness site.compressibility
+unfoldable pub siteSteepness : Site → ℕ
+unfolding curveSteepness
+siteSteepness site = curveSteepness site.compressibility
 
 -- an element with an inner or drained face of it: the element's c and the face's R
 pub record Contact : Type 0 where
@@ -104,13 +103,13 @@ contacts top bottom [] = []
 contacts top bottom (e ∷ rest) = outerContacts bottom e ++ contactsAbove top (e ∷ rest)
 
 -- a step is too long for an element and a face of it
-unfoldable pub tooLongAt : (slope t : ℕ) → Contact → Bool
-tooLongAt slope t c = ltb c.faceResistance (2 * c.sensitivity * slope * t)
+unfoldable pub tooLongAt : (steepness t : ℕ) → Contact → Bool
+tooLongAt steepness t c = ltb c.faceResistance (2 * c.sensitivity * steepness * t)
 
 -- a step is too long for some element and face of it
 unfoldable pub tooLong : Site → State → (t : ℕ) → Bool
-unfolding any tooLongAt contacts elements stressSlope
-tooLong site s t = any (tooLongAt (stressSlope site) t) (contacts site.top site.bottom (elements site s))
+unfolding any tooLongAt contacts elements siteSteepness
+tooLong site s t = any (tooLongAt (siteSteepness site) t) (contacts site.top site.bottom (elements site s))
 
 -- a water height is on the curve
 unfoldable pub onCurve : Skeleton → (S : ℕ) (W : ℤ) → Bool

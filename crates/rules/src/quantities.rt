@@ -2,7 +2,7 @@ ghost use mathlib.Core.Path.{_≡_};
 ghost use Prim.Native.Nat.{_≤_};
 ghost use Rattle.numbers.specs.Interval.{Within};
 ghost use Rattle.rules.specs.Quantities.{within, withinℤ, stressLimits, voidLimits, conductivityLimits, levelLimits, clockLimits, solidsLimits, waterLimits, stepLimits, budgetLimits, gravityLimits, elementLimits, curveLimits, tableLimits, flagLimits, startingWaterLimits, limitsOf, pressureOf, from_to_};
-ghost use Rattle.rules.specs.Record.{outflowSound};
+ghost use Rattle.rules.specs.Record.{outflowWithin};
 ghost use Rattle.rules.specs.Tested.{testedHead, testedPressure, testedVoid, testedClock};
 
 // Whether a number keeps limits.
@@ -35,7 +35,7 @@ impl Head {
 
     pub const MOST: u64 = 200_000_000_000;
 
-    pub fn holds(n: u64) -> bool
+    pub fn within(n: u64) -> bool
         ensures { λ r. ⌜ r ≡ within levelLimits n ⌝ }
     {
         within(Head::LEAST, Head::MOST, n)
@@ -45,7 +45,7 @@ impl Head {
     pub fn new(level: u64) -> TestedHead
         ensures { λ r. ⌜ r ≡ testedHead level ⌝ }
     {
-        if Head::holds(level) {
+        if Head::within(level) {
             TestedHead::Within(Head(level as i64))
         } else {
             TestedHead::Outside
@@ -81,7 +81,7 @@ impl Pressure {
 
     pub const MOST: u64 = 2_000_000_000;
 
-    pub fn holds(n: u64) -> bool
+    pub fn within(n: u64) -> bool
         ensures { λ r. ⌜ r ≡ within stressLimits n ⌝ }
     {
         within(Pressure::LEAST, Pressure::MOST, n)
@@ -91,7 +91,7 @@ impl Pressure {
     pub fn new(stress: u64) -> TestedPressure
         ensures { λ r. ⌜ r ≡ testedPressure stress ⌝ }
     {
-        if Pressure::holds(stress) {
+        if Pressure::within(stress) {
             TestedPressure::Within(Pressure(stress as i64))
         } else {
             TestedPressure::Outside
@@ -122,7 +122,7 @@ impl Void {
 
     pub const MOST: u64 = 10 * Void::ONE;
 
-    pub fn holds(n: u64) -> bool
+    pub fn within(n: u64) -> bool
         ensures { λ r. ⌜ r ≡ within voidLimits n ⌝ }
     {
         within(Void::LEAST, Void::MOST, n)
@@ -131,7 +131,7 @@ impl Void {
     pub fn new(ratio: u64) -> TestedVoid
         ensures { λ r. ⌜ r ≡ testedVoid ratio ⌝ }
     {
-        if Void::holds(ratio) {
+        if Void::within(ratio) {
             TestedVoid::Within(Void(ratio))
         } else {
             TestedVoid::Outside
@@ -152,7 +152,7 @@ impl Clock {
 
     pub const MOST: u64 = 3_000_000_000;
 
-    pub fn holds(n: u64) -> bool
+    pub fn within(n: u64) -> bool
         ensures { λ r. ⌜ r ≡ within clockLimits n ⌝ }
     {
         within(Clock::LEAST, Clock::MOST, n)
@@ -161,7 +161,7 @@ impl Clock {
     pub fn new(seconds: u64) -> TestedClock
         ensures { λ r. ⌜ r ≡ testedClock seconds ⌝ }
     {
-        if Clock::holds(seconds) {
+        if Clock::within(seconds) {
             TestedClock::Within(Clock(seconds))
         } else {
             TestedClock::Outside
@@ -177,7 +177,7 @@ impl Conductivity {
 
     pub const MOST: u64 = 1_000_000_000;
 
-    pub fn holds(n: u64) -> bool
+    pub fn within(n: u64) -> bool
         ensures { λ r. ⌜ r ≡ within conductivityLimits n ⌝ }
     {
         within(Conductivity::LEAST, Conductivity::MOST, n)
@@ -192,7 +192,7 @@ impl Solids {
 
     pub const MOST: u64 = 100_000_000;
 
-    pub fn holds(n: u64) -> bool
+    pub fn within(n: u64) -> bool
         ensures { λ r. ⌜ r ≡ within solidsLimits n ⌝ }
     {
         within(Solids::LEAST, Solids::MOST, n)
@@ -208,7 +208,7 @@ impl Water {
     // What the most solids hold at the greatest void ratio.
     pub const MOST: u64 = Solids::MOST * Void::MOST / Void::ONE;
 
-    pub fn holds(n: u64) -> bool
+    pub fn within(n: u64) -> bool
         ensures { λ r. ⌜ r ≡ within waterLimits n ⌝ }
     {
         within(Water::LEAST, Water::MOST, n)
@@ -223,7 +223,7 @@ impl Seconds {
 
     pub const MOST: u64 = 1_000_000;
 
-    pub fn holds(n: u64) -> bool
+    pub fn within(n: u64) -> bool
         ensures { λ r. ⌜ r ≡ within stepLimits n ⌝ }
     {
         within(Seconds::LEAST, Seconds::MOST, n)
@@ -238,7 +238,7 @@ impl Budget {
 
     pub const MOST: u64 = 1_000_000;
 
-    pub fn holds(n: u64) -> bool
+    pub fn within(n: u64) -> bool
         ensures { λ r. ⌜ r ≡ within budgetLimits n ⌝ }
     {
         within(Budget::LEAST, Budget::MOST, n)
@@ -253,7 +253,7 @@ impl Gravity {
 
     pub const MOST: u64 = 5_000;
 
-    pub fn holds(n: u64) -> bool
+    pub fn within(n: u64) -> bool
         ensures { λ r. ⌜ r ≡ within gravityLimits n ⌝ }
     {
         within(Gravity::LEAST, Gravity::MOST, n)
@@ -268,7 +268,7 @@ impl Elements {
 
     pub const MOST: u64 = 128;
 
-    pub fn holds(n: u64) -> bool
+    pub fn within(n: u64) -> bool
         ensures { λ r. ⌜ r ≡ within elementLimits n ⌝ }
     {
         within(Elements::LEAST, Elements::MOST, n)
@@ -283,7 +283,7 @@ impl CurvePoints {
 
     pub const MOST: u64 = 64;
 
-    pub fn holds(n: u64) -> bool
+    pub fn within(n: u64) -> bool
         ensures { λ r. ⌜ r ≡ within curveLimits n ⌝ }
     {
         within(CurvePoints::LEAST, CurvePoints::MOST, n)
@@ -298,7 +298,7 @@ impl TablePoints {
 
     pub const MOST: u64 = 64;
 
-    pub fn holds(n: u64) -> bool
+    pub fn within(n: u64) -> bool
         ensures { λ r. ⌜ r ≡ within tableLimits n ⌝ }
     {
         within(TablePoints::LEAST, TablePoints::MOST, n)
@@ -313,7 +313,7 @@ impl Flag {
 
     pub const MOST: u64 = 1;
 
-    pub fn holds(n: u64) -> bool
+    pub fn within(n: u64) -> bool
         ensures { λ r. ⌜ r ≡ within flagLimits n ⌝ }
     {
         within(Flag::LEAST, Flag::MOST, n)
@@ -329,7 +329,7 @@ impl StartingWater {
     // The most water in as many elements as there can be.
     pub const MOST: u64 = Elements::MOST * Water::MOST;
 
-    pub fn holds(n: u64) -> bool
+    pub fn within(n: u64) -> bool
         ensures { λ r. ⌜ r ≡ within startingWaterLimits n ⌝ }
     {
         within(StartingWater::LEAST, StartingWater::MOST, n)
@@ -344,9 +344,9 @@ impl Outflow {
     pub const RATE: u64 = 2_300_000_000;
 
     // Whether an outflow keeps its bound at a clock within its limits.
-    pub fn is_sound(self, clock: Clock) -> bool
+    pub fn within(self, clock: Clock) -> bool
         requires { ⌜ clock .0 ≤ clockLimits .most ⌝ }
-        ensures { λ r. ⌜ r ≡ outflowSound (self .0) (clock .0) ⌝ }
+        ensures { λ r. ⌜ r ≡ outflowWithin (self .0) (clock .0) ⌝ }
     {
         let most = (Outflow::RATE * clock.0) as i64;
         0 - most <= self.0 && self.0 <= most
@@ -366,7 +366,7 @@ pub enum Kind {
 
 impl Kind {
     // Whether a number keeps the limits of the kind.
-    pub fn keeps(self, n: u64) -> bool
+    pub fn within(self, n: u64) -> bool
         ensures { λ r. ⌜ r ≡ within (limitsOf self) n ⌝ }
     {
         match self {
@@ -378,13 +378,13 @@ impl Kind {
                 TestedVoid::Within(_) => true,
                 TestedVoid::Outside => false,
             },
-            Kind::Conductivity => Conductivity::holds(n),
+            Kind::Conductivity => Conductivity::within(n),
             Kind::Time => match Clock::new(n) {
                 TestedClock::Within(_) => true,
                 TestedClock::Outside => false,
             },
-            Kind::Solids => Solids::holds(n),
-            Kind::Water => Water::holds(n),
+            Kind::Solids => Solids::within(n),
+            Kind::Water => Water::within(n),
             Kind::Zero => n == 0,
         }
     }

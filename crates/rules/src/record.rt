@@ -10,6 +10,12 @@ pub struct CurveCounts {
     pub conductivity: usize,
 }
 
+// What an element's effective stress is read by, beside its solids, its water and the compressibility curve's points: today how many
+// points there are.
+pub struct Skeleton {
+    pub points: usize,
+}
+
 // Both curves, point by point. Array places past a count are ignored and kept, here and in a layer.
 pub struct Soil {
     pub counts: CurveCounts,

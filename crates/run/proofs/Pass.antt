@@ -18,8 +18,8 @@ use Rattle.lent.specs.Progress as progress
 use Rattle.lent.specs.Standing.{curve, counted, each-stands}
 use Rattle.lent.specs.StepLaws.{on-soil-with-as, shows-with-as}
 use Rattle.layer.specs.Soil.{OnSoil}
-use Rattle.motion.specs.Turning.{longestUpTo, turnedBy, waterTurned, flowsTurned, Shows}
-use Rattle.motion.specs.declared.Turned.the-variants.{Stopped, Stepped}
+use Rattle.layer_step.specs.Turning.{longestUpTo, turnedBy, waterTurned, flowsTurned, Shows}
+use Rattle.layer_step.specs.declared.Turned.the-variants.{Stopped, Stepped}
 use Rattle.numbers.specs.Arrays.{firstPlaces, overlaid}
 use Rattle.numbers.specs.Filled.{length-overlaid, length-filled, overlaid-overlaid, first-length}
 use Rattle.numbers.specs.Lists.{firstOr, lastOr}

@@ -24,6 +24,7 @@ use rules::record::CurveCounts;
 use rules::record::Frame;
 use rules::record::Progress;
 use rules::record::Record;
+use rules::record::Skeleton;
 
 pub mod passes;
 
@@ -61,10 +62,13 @@ pub fn run_lent<'a>(
     let mut sensitivity = [0u64; 128];
     let mut low = [0u64; 128];
     let mut high = [0u64; 128];
-    let slope = motion::prepare(
+    let skeleton = Skeleton {
+        points: counts.compressibility,
+    };
+    let steepness = layer_step::prepare(
         frame.elements,
         solids,
-        counts.compressibility,
+        skeleton,
         void,
         stress,
         &mut sensitivity,
@@ -87,7 +91,7 @@ pub fn run_lent<'a>(
         &sensitivity,
         &low,
         &high,
-        slope,
+        steepness,
         end,
         budget,
     )
@@ -132,7 +136,7 @@ pub fn take_run(r: Record, end: u64, budget: u64) -> Answered
     ensures { λ a. ⌜ a ≡ called r (Run end budget) ⌝ }
     ensures { λ a. ⌜ answerNumbers (a .answer) ≡ calledNumbers r (Run end budget) ⌝ }
 {
-    if !sound::record::is_layer(r) {
+    if !layer_test::record::is_layer(r) {
         return state::refused(r, Refusal::NoLayer);
     }
     let clock = r.layer.progress.clock;
@@ -142,7 +146,7 @@ pub fn take_run(r: Record, end: u64, budget: u64) -> Answered
     let TestedClock::Within(_) = Clock::new(end) else {
         return state::refused(r, Refusal::RunOutside);
     };
-    if !Budget::holds(budget) {
+    if !Budget::within(budget) {
         return state::refused(r, Refusal::RunOutside);
     }
     run_layer(r, end, budget)

@@ -6,7 +6,7 @@ ghost use Prim.Native.Nat.{_≤_, _<_};
 ghost use Rattle.layer.specs.Segments.{Segments};
 ghost use Rattle.layer.specs.Soil.{excessAt, resistanceAt};
 ghost use Rattle.lent.specs.Burdens.{burdensIn};
-ghost use Rattle.motion.specs.Turning.{waterTurned, flowsTurned, Worked};
+ghost use Rattle.layer_step.specs.Turning.{waterTurned, flowsTurned, Worked};
 ghost use Rattle.numbers.specs.Arrays.{filled};
 ghost use Rattle.rules.specs.Calls.{endedRun};
 ghost use Rattle.rules.specs.Curve.{points};
@@ -15,14 +15,15 @@ ghost use Rattle.rules.specs.Record.{soilOf, layerOf, recordOf, recordSite, wit
 ghost use Rattle.rules.specs.Run.{longestStep};
 ghost use Rattle.run.specs.Passing.{underTable, found, passedBy};
 ghost use Rattle.rules.specs.declared.record.Record.{Record};
+use layer_step::Turned;
 use lent::state;
-use motion::Turned;
 use rules::answers::Ended;
 use rules::answers::Stop;
 use rules::quantities::Seconds;
 use rules::record::CurveCounts;
 use rules::record::Frame;
 use rules::record::Progress;
+use rules::record::Skeleton;
 
 // What a pass gives: its stop with the layer's progress under the table's load, or the progress after its step.
 pub enum Passed {
@@ -48,7 +49,7 @@ pub fn pass<'a>(
     sensitivity: &'a [u64; 128],
     low: &'a [u64; 128],
     high: &'a [u64; 128],
-    slope: u64,
+    steepness: u64,
     end: u64,
     stress_segment: &mut [usize; 128],
     conductivity_segment: &mut [usize; 128],
@@ -61,7 +62,7 @@ pub fn pass<'a>(
     requires { λ r. ⌜ isLayer r ≡ true ⌝ }
     requires { λ r. ⌜ (progress .clock .0 < end) × (end ≤ clockLimits .most) ⌝ }
     requires { λ _. ⌜ (length (now water) ≡ 128) × (now burden ≡ burdensIn frame (now solids)) ⌝ }
-    requires { λ _. ⌜ Worked (frame .elements) (points (counts .compressibility) (now void) (now stress)) (now solids) (now sensitivity) (now low) (now high) slope ⌝ }
+    requires { λ _. ⌜ Worked (frame .elements) (points (counts .compressibility) (now void) (now stress)) (now solids) (now sensitivity) (now low) (now high) steepness ⌝ }
     requires { λ _. ⌜ (length (now excess) ≡ 128) × (length (now resistance) ≡ 128) × (length (now above) ≡ 128) × (length (now «stress_segment») ≡ 128) × (length (now «conductivity_segment») ≡ 128) ⌝ }
     ensures { λ r p. ⌜ p ≡ passedBy r (found r end) ⌝ }
     ensures { λ r _. ⌜ now (water .exit) ≡ waterTurned (recordSite r) (underTable r) (found r end) (now (water .entry)) ⌝ }
@@ -77,19 +78,22 @@ pub fn pass<'a>(
     let under = state::loaded(progress, load);
     let next = table::next_time(frame.table_points, table_time, clock, end);
     let most = numbers::lesser(Seconds::MOST, numbers::lesser(end, next) - clock);
-    match motion::turn(
+    let skeleton = Skeleton {
+        points: counts.compressibility,
+    };
+    match layer_step::turn(
         frame.elements,
         top,
         bottom,
         load,
         most,
-        slope,
+        steepness,
         burden,
         solids,
         sensitivity,
         low,
         high,
-        counts.compressibility,
+        skeleton,
         void,
         stress,
         counts.conductivity,
@@ -136,7 +140,7 @@ pub fn passes<'a>(
     sensitivity: &'a [u64; 128],
     low: &'a [u64; 128],
     high: &'a [u64; 128],
-    slope: u64,
+    steepness: u64,
     end: u64,
     budget: u64,
 ) -> Ended
@@ -145,7 +149,7 @@ pub fn passes<'a>(
     requires { λ r. ⌜ isLayer r ≡ true ⌝ }
     requires { λ r. ⌜ (progress .clock .0 ≤ end) × (end ≤ clockLimits .most) × (budget ≤ budgetLimits .most) ⌝ }
     requires { λ _. ⌜ (length (now water) ≡ 128) × (now burden ≡ burdensIn frame (now solids)) ⌝ }
-    requires { λ _. ⌜ Worked (frame .elements) (points (counts .compressibility) (now void) (now stress)) (now solids) (now sensitivity) (now low) (now high) slope ⌝ }
+    requires { λ _. ⌜ Worked (frame .elements) (points (counts .compressibility) (now void) (now stress)) (now solids) (now sensitivity) (now low) (now high) steepness ⌝ }
     ensures { λ r e. ⌜ endedRun r end budget ≡ record { stop = e .stop; steps = e .steps; after = withParts r (now (water .exit)) (e .progress) } ⌝ }
 {
     let mut stress_segment = [0usize; 128];
@@ -175,7 +179,7 @@ pub fn passes<'a>(
             sensitivity,
             low,
             high,
-            slope,
+            steepness,
             end,
             &mut stress_segment,
             &mut conductivity_segment,

@@ -11,34 +11,28 @@ use mathlib.Core.Path.{_≡_, refl, sym, ap, _∙_}
 use Rattle.laws.specs.Every.{Every}
 use Rattle.numbers.specs.Arrays.{tabulate}
 use Rattle.numbers.specs.Lists.{least}
-use Rattle.rules.specs.Curve.{Point}
-use Rattle.rules.specs.Layer.{Site, skeleton, skeletonOf, effectiveStress}
+use Rattle.rules.specs.Layer.{Skeleton, effectiveStress}
 use Rattle.rules.specs.Quantities.{waterLimits}
-use Rattle.rules.specs.Start.{atMost, restingWater, lastStress, prepended, restingFrom}
-use Rattle.start.specs.Rest.{restingUnder, restingHeights}
+use Rattle.numbers.specs.Lists.{prepended}
+use Rattle.rules.specs.Start.{atMost, restingWater, lastStress, restingFrom}
+use Rattle.start.specs.Rest.{restingHeights}
+use Rattle.rules.specs.Start.{restingUnder}
 
-module _ (curve : List Point) (load B S : ℕ) where
+module _ (soil : Skeleton) (load B S : ℕ) where
   -- load + B not above the last stress, and above it
-  pub under-last : load + B ≤ lastStress curve → restingUnder curve load B S ≡ restingWater (skeletonOf curve) S (load + B)
+  pub under-last : load + B ≤ lastStress soil.compressibility → restingUnder soil load B S ≡ restingWater soil S (load + B)
   unfolding restingUnder
-  under-last h = rw (le-leb (load + B) (lastStress curve) h, restingUnder)
+  under-last h = rw (le-leb (load + B) (lastStress soil.compressibility) h, restingUnder)
 
-  pub above-last : lastStress curve < load + B → restingUnder curve load B S ≡ none
+  pub above-last : lastStress soil.compressibility < load + B → restingUnder soil load B S ≡ none
   unfolding restingUnder
-  above-last h = rw (lt-leb (load + B) (lastStress curve) h, restingUnder)
+  above-last h = rw (lt-leb (load + B) (lastStress soil.compressibility) h, restingUnder)
 
 -- the resting water of one element before that of the rest
-from-step : (site : Site) (load B S : ℕ) (Bs Ss : List ℕ) →
-    restingFrom site load (B ∷ Bs) (S ∷ Ss) ≡ prepended (restingUnder site.compressibility load B S) (restingFrom site load Bs Ss)
-unfolding restingFrom restingUnder prepended
-from-step site load B S Bs Ss = go (leb (load + B) (lastStress site.compressibility))
-  where
-    go : (c : Bool) →
-        _≡_ {A = Option (List ℕ)}
-        (elim c [ true ↦ prepended (restingWater (skeleton site) S (load + B)) (restingFrom site load Bs Ss) | false ↦ none ])
-        (prepended (elim c as (λ _. Option ℕ) [ true ↦ restingWater (skeleton site) S (load + B) | false ↦ none ]) (restingFrom site load Bs Ss))
-    go true = refl
-    go false = refl
+from-step : (soil : Skeleton) (load B S : ℕ) (Bs Ss : List ℕ) →
+    restingFrom soil load (B ∷ Bs) (S ∷ Ss) ≡ prepended (restingUnder soil load B S) (restingFrom soil load Bs Ss)
+unfolding restingFrom
+from-step soil load B S Bs Ss = refl
 
 -- where the rest have none, all have none
 prepended-none : (o : Option ℕ) → prepended o none ≡ none
@@ -46,57 +40,57 @@ unfolding prepended
 prepended-none (some W) = refl
 prepended-none none = refl
 
-module _ (site : Site) (load : ℕ) where
+module _ (soil : Skeleton) (load : ℕ) where
   -- element i rests at a height
   abbrev pub RestsAt : (B S h : ℕ → ℕ) → ℕ → Type 0
-  RestsAt B S h i = restingUnder site.compressibility load (B i) (S i) ≡ some (h i)
+  RestsAt B S h i = restingUnder soil load (B i) (S i) ≡ some (h i)
 
   -- all elements rest
   pub all-rest : (n : ℕ) (B S h : ℕ → ℕ) → ((i : ℕ) → i < n → RestsAt B S h i) →
-      restingFrom site load (tabulate n B) (tabulate n S) ≡ some (tabulate n h)
+      restingFrom soil load (tabulate n B) (tabulate n S) ≡ some (tabulate n h)
   unfolding tabulate prepended restingFrom
   all-rest zero B S h e = refl
   all-rest (suc n) B S h e =
-      from-step site load (B 0) (S 0) (tabulate n (λ i. B (suc i))) (tabulate n (λ i. S (suc i))) ∙
+      from-step soil load (B 0) (S 0) (tabulate n (λ i. B (suc i))) (tabulate n (λ i. S (suc i))) ∙
       rw (e 0 (omega arith), all-rest n (λ i. B (suc i)) (λ i. S (suc i)) (λ i. h (suc i)) (λ i k. e (suc i) (omega arith)))
 
   -- some element does not
-  pub one-not : (n j : ℕ) (B S : ℕ → ℕ) → j < n → restingUnder site.compressibility load (B j) (S j) ≡ none →
-      restingFrom site load (tabulate n B) (tabulate n S) ≡ none
+  pub one-not : (n j : ℕ) (B S : ℕ → ℕ) → j < n → restingUnder soil load (B j) (S j) ≡ none →
+      restingFrom soil load (tabulate n B) (tabulate n S) ≡ none
   unfolding tabulate prepended
   one-not zero j B S h e = absurd (omega arith)
   one-not (suc n) zero B S h e =
-      from-step site load (B 0) (S 0) (tabulate n (λ i. B (suc i))) (tabulate n (λ i. S (suc i))) ∙ rw e
+      from-step soil load (B 0) (S 0) (tabulate n (λ i. B (suc i))) (tabulate n (λ i. S (suc i))) ∙ rw e
   one-not (suc n) (suc j) B S h e =
-      from-step site load (B 0) (S 0) (tabulate n (λ i. B (suc i))) (tabulate n (λ i. S (suc i))) ∙
-      rw (one-not n j (λ i. B (suc i)) (λ i. S (suc i)) (omega arith) e) (prepended-none (restingUnder site.compressibility load (B 0) (S 0)))
+      from-step soil load (B 0) (S 0) (tabulate n (λ i. B (suc i))) (tabulate n (λ i. S (suc i))) ∙
+      rw (one-not n j (λ i. B (suc i)) (λ i. S (suc i)) (omega arith) e) (prepended-none (restingUnder soil load (B 0) (S 0)))
 
   -- where all elements rest, their resting water is that of as many as do
-  pub heights-all : (Bs Ss water : List ℕ) → restingFrom site load Bs Ss ≡ some water → restingHeights site.compressibility load Bs Ss ≡ water
+  pub heights-all : (Bs Ss water : List ℕ) → restingFrom soil load Bs Ss ≡ some water → restingHeights soil load Bs Ss ≡ water
   unfolding restingFrom restingHeights prepended
   heights-all [] Ss water e = cc
   heights-all (B ∷ Bs) [] water e = cc
-  heights-all (B ∷ Bs) (S ∷ Ss) water e = go (restingUnder site.compressibility load B S) (restingFrom site load Bs Ss) (heights-all Bs Ss) water (sym (from-step site load B S Bs Ss) ∙ e)
+  heights-all (B ∷ Bs) (S ∷ Ss) water e = go (restingUnder soil load B S) (restingFrom soil load Bs Ss) (heights-all Bs Ss) water (sym (from-step soil load B S Bs Ss) ∙ e)
     where
-      go : (o : Option ℕ) (rest : Option (List ℕ)) → ((water : List ℕ) → rest ≡ some water → restingHeights site.compressibility load Bs Ss ≡ water) →
+      go : (o : Option ℕ) (rest : Option (List ℕ)) → ((water : List ℕ) → rest ≡ some water → restingHeights soil load Bs Ss ≡ water) →
           (water : List ℕ) → prepended o rest ≡ some water →
-          _≡_ {A = List ℕ} (elim o [ some W ↦ W ∷ restingHeights site.compressibility load Bs Ss | none ↦ [] ]) water
+          _≡_ {A = List ℕ} (elim o [ some W ↦ W ∷ restingHeights soil load Bs Ss | none ↦ [] ]) water
       go none rest ih water e = absurd (Option·none-ne-some water e)
       go (some W) none ih water e = absurd (Option·none-ne-some water e)
       go (some W) (some more) ih water e = let same = ih more refl in cc
 
 -- the resting water of the first elements, up to one that does not rest, or of all
-pub heights-until : (curve : List Point) (load n j : ℕ) (B S h : ℕ → ℕ) → j ≤ n →
-    ((i : ℕ) → i < j → restingUnder curve load (B i) (S i) ≡ some (h i)) → (j < n → restingUnder curve load (B j) (S j) ≡ none) →
-    restingHeights curve load (tabulate n B) (tabulate n S) ≡ tabulate j h
+pub heights-until : (soil : Skeleton) (load n j : ℕ) (B S h : ℕ → ℕ) → j ≤ n →
+    ((i : ℕ) → i < j → restingUnder soil load (B i) (S i) ≡ some (h i)) → (j < n → restingUnder soil load (B j) (S j) ≡ none) →
+    restingHeights soil load (tabulate n B) (tabulate n S) ≡ tabulate j h
 unfolding tabulate restingHeights
-heights-until curve load zero zero B S h k e f = refl
-heights-until curve load zero (suc j) B S h k e f = absurd (omega arith)
-heights-until curve load (suc n) zero B S h k e f = rw (f (omega arith), restingHeights)
-heights-until curve load (suc n) (suc j) B S h k e f =
+heights-until soil load zero zero B S h k e f = refl
+heights-until soil load zero (suc j) B S h k e f = absurd (omega arith)
+heights-until soil load (suc n) zero B S h k e f = rw (f (omega arith), restingHeights)
+heights-until soil load (suc n) (suc j) B S h k e f =
     rw (e 0 (omega arith), restingHeights)
     (ap (λ (l : List ℕ). h 0 ∷ l)
-    (heights-until curve load n j (λ i. B (suc i)) (λ i. S (suc i)) (λ i. h (suc i)) (omega arith) (λ i l. e (suc i) (omega arith)) (λ l. f (omega arith))))
+    (heights-until soil load n j (λ i. B (suc i)) (λ i. S (suc i)) (λ i. h (suc i)) (omega arith) (λ i l. e (suc i) (omega arith)) (λ l. f (omega arith))))
 
 -- ---- how many heights, and how high
 
@@ -111,36 +105,36 @@ least-below test (suc count) n found e = go (test n) e (least-below test count (
     go true e later = let same : n ≡ found = cc in omega arith
     go false e later = omega (arith, later e)
 
-module _ (curve : List Point) (load : ℕ) where
-  under-most : (B S W : ℕ) → restingUnder curve load B S ≡ some W → W ≤ waterLimits .most
+module _ (soil : Skeleton) (load : ℕ) where
+  under-most : (B S W : ℕ) → restingUnder soil load B S ≡ some W → W ≤ waterLimits .most
   unfolding restingUnder restingWater
-  under-most B S W e = go (leb (load + B) (lastStress curve)) e
+  under-most B S W e = go (leb (load + B) (lastStress soil.compressibility)) e
     where
-      go : (under : Bool) → elim under as (λ _. Option ℕ) [ true ↦ restingWater (skeletonOf curve) S (load + B) | false ↦ none ] ≡ some W → W ≤ waterLimits .most
-      go true e = omega (arith, least-below (λ U. atMost (effectiveStress (skeletonOf curve) S U) (load + B)) (suc (waterLimits .most)) 0 W e)
+      go : (under : Bool) → elim under as (λ _. Option ℕ) [ true ↦ restingWater soil S (load + B) | false ↦ none ] ≡ some W → W ≤ waterLimits .most
+      go true e = omega (arith, least-below (λ U. atMost (effectiveStress soil S U) (load + B)) (suc (waterLimits .most)) 0 W e)
       go false e = absurd (Option·none-ne-some W e)
 
   -- each keeps the greatest height
-  pub heights-most : (Bs Ss : List ℕ) → Every (λ W. W ≤ waterLimits .most) (restingHeights curve load Bs Ss)
+  pub heights-most : (Bs Ss : List ℕ) → Every (λ W. W ≤ waterLimits .most) (restingHeights soil load Bs Ss)
   unfolding restingHeights Every
   heights-most [] Ss = tt
   heights-most (B ∷ Bs) [] = tt
-  heights-most (B ∷ Bs) (S ∷ Ss) = go (restingUnder curve load B S) (under-most B S) (heights-most Bs Ss)
+  heights-most (B ∷ Bs) (S ∷ Ss) = go (restingUnder soil load B S) (under-most B S) (heights-most Bs Ss)
     where
       go : (o : Option ℕ) → ((W : ℕ) → o ≡ some W → W ≤ waterLimits .most) →
-          Every (λ W. W ≤ waterLimits .most) (restingHeights curve load Bs Ss) →
-          Every (λ W. W ≤ waterLimits .most) (elim o [ some W ↦ W ∷ restingHeights curve load Bs Ss | none ↦ [] ])
+          Every (λ W. W ≤ waterLimits .most) (restingHeights soil load Bs Ss) →
+          Every (λ W. W ≤ waterLimits .most) (elim o [ some W ↦ W ∷ restingHeights soil load Bs Ss | none ↦ [] ])
       go (some W) most rest = (most W refl, rest)
       go none most rest = tt
 
   -- there are no more of them than elements
-  pub heights-few : (Bs Ss : List ℕ) → length (restingHeights curve load Bs Ss) ≤ length Bs
+  pub heights-few : (Bs Ss : List ℕ) → length (restingHeights soil load Bs Ss) ≤ length Bs
   unfolding restingHeights
   heights-few [] Ss = omega arith
   heights-few (B ∷ Bs) [] = omega arith
-  heights-few (B ∷ Bs) (S ∷ Ss) = go (restingUnder curve load B S) (heights-few Bs Ss)
+  heights-few (B ∷ Bs) (S ∷ Ss) = go (restingUnder soil load B S) (heights-few Bs Ss)
     where
-      go : (o : Option ℕ) → length (restingHeights curve load Bs Ss) ≤ length Bs →
-          length {A = ℕ} (elim o as (λ _. List ℕ) [ some W ↦ W ∷ restingHeights curve load Bs Ss | none ↦ [] ]) ≤ length {A = ℕ} (B ∷ Bs)
+      go : (o : Option ℕ) → length (restingHeights soil load Bs Ss) ≤ length Bs →
+          length {A = ℕ} (elim o as (λ _. List ℕ) [ some W ↦ W ∷ restingHeights soil load Bs Ss | none ↦ [] ]) ≤ length {A = ℕ} (B ∷ Bs)
       go (some W) h = omega arith
       go none h = omega arith

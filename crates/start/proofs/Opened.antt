@@ -10,7 +10,7 @@ use mathlib.Core.Path.{_≡_, refl, sym, ap, _∙_}
 use Rattle.laws.specs.Lengths.{burdens-length}
 use Rattle.numbers.specs.Arrays.{firstPlaces, overlaid}
 use Rattle.numbers.specs.Filled.{length-tabulate, tabulated}
-use Rattle.rules.specs.Layer.{Site, skeleton, burdens}
+use Rattle.rules.specs.Layer.{Skeleton, burdens}
 use Rattle.rules.specs.Start.{restingFrom, startWater}
 use Rattle.rules.specs.Step.{allOnCurve}
 use Rattle.start.specs.Rest.{restingHeights, allOrNone}
@@ -24,23 +24,23 @@ burdens-in g n solids burden same =
     tabulated n (λ j. getD burden j 0) (burdens g (firstPlaces n solids)) 0
     (burdens-length g (firstPlaces n solids) ∙ length-tabulate n (λ j. getD solids j 0)) (λ j h. sym (same j h))
 
-module _ (site : Site) (start : ℕ) (given : List ℕ) (load : ℕ) where
+module _ (soil : Skeleton) (Bs Ss : List ℕ) (start : ℕ) (given : List ℕ) (load : ℕ) where
   -- start 0: as given, where all of it is on the curve
   pub given-start : eqb start 0 ≡ true →
-      startWater site start given load ≡ allOrNone (allOnCurve (skeleton site) site.solids (map pos given)) given
+      startWater soil Bs Ss start given load ≡ allOrNone (allOnCurve soil Ss (map pos given)) given
   unfolding startWater allOrNone
-  given-start e = rw (e, startWater) (go (allOnCurve (skeleton site) site.solids (map pos given)))
+  given-start e = rw (e, startWater) (go (allOnCurve soil Ss (map pos given)))
     where
       go : (on : Bool) → _≡_ {A = Option (List ℕ)} (elim on [ true ↦ some given | false ↦ none ]) (allOrNone on given)
       go true = refl
       go false = refl
 
   -- start 1: at rest, where every element is
-  pub resting-start : eqb start 0 ≡ false → startWater site start given load ≡ restingFrom site load (burdens site.gravity site.solids) site.solids
+  pub resting-start : eqb start 0 ≡ false → startWater soil Bs Ss start given load ≡ restingFrom soil load Bs Ss
   unfolding startWater
   resting-start e = rw (e, startWater)
 
 -- the array of resting water, where every element rests
-pub resting-array : (site : Site) (load : ℕ) (Bs Ss water start after : List ℕ) → restingFrom site load Bs Ss ≡ some water →
-    after ≡ overlaid (restingHeights site.compressibility load Bs Ss) start → after ≡ overlaid water start
-resting-array site load Bs Ss water start after e k = k ∙ ap (λ (l : List ℕ). overlaid l start) (heights-all site load Bs Ss water e)
+pub resting-array : (soil : Skeleton) (load : ℕ) (Bs Ss water start after : List ℕ) → restingFrom soil load Bs Ss ≡ some water →
+    after ≡ overlaid (restingHeights soil load Bs Ss) start → after ≡ overlaid water start
+resting-array soil load Bs Ss water start after e k = k ∙ ap (λ (l : List ℕ). overlaid l start) (heights-all soil load Bs Ss water e)

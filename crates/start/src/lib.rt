@@ -10,11 +10,12 @@ ghost use Rattle.numbers.specs.Arrays.{firstPlaces, overlaid};
 ghost use Rattle.rules.specs.Curve.{points, isOn, compressibilitySound};
 ghost use Rattle.rules.specs.Layer.{Site, skeletonOf, effectiveStress};
 ghost use Rattle.rules.specs.Quantities.{stressLimits, solidsLimits, waterLimits, elementLimits, curveLimits};
-ghost use Rattle.rules.specs.Start.{atMost, restingWater, restingFrom};
+ghost use Rattle.rules.specs.Start.{atMost, restingWater, restingUnder, restingFrom};
 ghost use Rattle.rules.specs.Step.{allOnCurve};
-ghost use Rattle.start.specs.Rest.{restingAnswer, restingUnder, restingHeights, allOrNone};
+ghost use Rattle.start.specs.Rest.{restingAnswer, restingHeights, allOrNone};
 use curves::reading;
 use rules::quantities::CurveValue;
+use rules::record::Skeleton;
 
 // Where the water of an element rests: at a height, or at none.
 pub enum Resting {
@@ -24,23 +25,23 @@ pub enum Resting {
 
 // Whether every element is on a sound compressibility curve.
 pub fn all_on_curve<'a>(
-    n: usize,
+    elements: usize,
     solids: &'a [u64; 128],
     water: &'a [u64; 128],
-    m: usize,
+    skeleton: Skeleton,
     void: &'a [u64; 64],
     stress: &'a [u64; 64],
 ) -> bool
-    requires { ⌜ n ≤ elementLimits .most ⌝ }
-    requires { ⌜ ((j : ℕ) → j < n → (0 < getD (now solids) j 0) × (getD (now water) j 0 ≤ waterLimits .most)) ⌝ }
-    requires { ⌜ (curveLimits .least ≤ m) × (m ≤ curveLimits .most) ⌝ }
-    requires { ⌜ compressibilitySound (points m (now void) (now stress)) ≡ true ⌝ }
-    ensures { λ r. ⌜ r ≡ allOnCurve (skeletonOf (points m (now (void .entry)) (now (stress .entry)))) (firstPlaces n (now (solids .entry))) (map pos (firstPlaces n (now (water .entry)))) ⌝ }
+    requires { ⌜ elements ≤ elementLimits .most ⌝ }
+    requires { ⌜ ((j : ℕ) → j < elements → (0 < getD (now solids) j 0) × (getD (now water) j 0 ≤ waterLimits .most)) ⌝ }
+    requires { ⌜ (curveLimits .least ≤ (skeleton .points)) × ((skeleton .points) ≤ curveLimits .most) ⌝ }
+    requires { ⌜ compressibilitySound (points (skeleton .points) (now void) (now stress)) ≡ true ⌝ }
+    ensures { λ r. ⌜ r ≡ allOnCurve (skeletonOf (points (skeleton .points) (now (void .entry)) (now (stress .entry)))) (firstPlaces elements (now (solids .entry))) (map pos (firstPlaces elements (now (water .entry)))) ⌝ }
 {
     let mut hint: usize = 0;
     let mut j: usize = 0;
-    while j < n {
-        let found = element::effective_stress(solids[j], water[j], m, void, stress, hint);
+    while j < elements {
+        let found = element::effective_stress(solids[j], water[j], skeleton, void, stress, hint);
         let value = found.value;
         if !reading::is_on(value) {
             return false;
@@ -56,16 +57,16 @@ pub fn rests<'a>(
     solids: u64,
     water: u64,
     most: u64,
-    m: usize,
+    skeleton: Skeleton,
     void: &'a [u64; 64],
     stress: &'a [u64; 64],
 ) -> bool
     requires { ⌜ (0 < solids) × (water ≤ waterLimits .most) ⌝ }
-    requires { ⌜ (curveLimits .least ≤ m) × (m ≤ curveLimits .most) ⌝ }
-    requires { ⌜ compressibilitySound (points m (now void) (now stress)) ≡ true ⌝ }
-    ensures { λ r. ⌜ r ≡ atMost (effectiveStress (skeletonOf (points m (now (void .entry)) (now (stress .entry)))) solids water) most ⌝ }
+    requires { ⌜ (curveLimits .least ≤ (skeleton .points)) × ((skeleton .points) ≤ curveLimits .most) ⌝ }
+    requires { ⌜ compressibilitySound (points (skeleton .points) (now void) (now stress)) ≡ true ⌝ }
+    ensures { λ r. ⌜ r ≡ atMost (effectiveStress (skeletonOf (points (skeleton .points) (now (void .entry)) (now (stress .entry)))) solids water) most ⌝ }
 {
-    let found = element::effective_stress(solids, water, m, void, stress, 0);
+    let found = element::effective_stress(solids, water, skeleton, void, stress, 0);
     let value = found.value;
     match value {
         CurveValue::On(read) => read <= most,
@@ -77,23 +78,23 @@ pub fn rests<'a>(
 pub fn resting_water<'a>(
     solids: u64,
     most: u64,
-    m: usize,
+    skeleton: Skeleton,
     void: &'a [u64; 64],
     stress: &'a [u64; 64],
 ) -> Resting
     requires { ⌜ (0 < solids) × (solids ≤ solidsLimits .most) ⌝ }
-    requires { ⌜ (curveLimits .least ≤ m) × (m ≤ curveLimits .most) ⌝ }
-    requires { ⌜ compressibilitySound (points m (now void) (now stress)) ≡ true ⌝ }
-    ensures { λ r. ⌜ r ≡ restingAnswer (restingWater (skeletonOf (points m (now (void .entry)) (now (stress .entry)))) solids most) ⌝ }
+    requires { ⌜ (curveLimits .least ≤ (skeleton .points)) × ((skeleton .points) ≤ curveLimits .most) ⌝ }
+    requires { ⌜ compressibilitySound (points (skeleton .points) (now void) (now stress)) ≡ true ⌝ }
+    ensures { λ r. ⌜ r ≡ restingAnswer (restingWater (skeletonOf (points (skeleton .points) (now (void .entry)) (now (stress .entry)))) solids most) ⌝ }
 {
     let mut high = water::highest_water(solids, void[0]);
-    if !rests(solids, high, most, m, void, stress) {
+    if !rests(solids, high, most, skeleton, void, stress) {
         return Resting::Nowhere;
     }
-    let mut low = water::lowest_water(solids, void[m - 1]);
+    let mut low = water::lowest_water(solids, void[skeleton.points - 1]);
     while low < high {
         let middle = low + (high - low) / 2;
-        if rests(solids, middle, most, m, void, stress) {
+        if rests(solids, middle, most, skeleton, void, stress) {
             high = middle;
         } else {
             low = middle + 1;
@@ -107,47 +108,47 @@ pub fn resting_under<'a>(
     load: u64,
     burden: u64,
     solids: u64,
-    m: usize,
+    skeleton: Skeleton,
     void: &'a [u64; 64],
     stress: &'a [u64; 64],
 ) -> Resting
     requires { ⌜ (load ≤ stressLimits .most) × (burden ≤ mostBurden) ⌝ }
     requires { ⌜ (0 < solids) × (solids ≤ solidsLimits .most) ⌝ }
-    requires { ⌜ (curveLimits .least ≤ m) × (m ≤ curveLimits .most) ⌝ }
-    requires { ⌜ compressibilitySound (points m (now void) (now stress)) ≡ true ⌝ }
-    ensures { λ r. ⌜ r ≡ restingAnswer (restingUnder (points m (now (void .entry)) (now (stress .entry))) load burden solids) ⌝ }
+    requires { ⌜ (curveLimits .least ≤ (skeleton .points)) × ((skeleton .points) ≤ curveLimits .most) ⌝ }
+    requires { ⌜ compressibilitySound (points (skeleton .points) (now void) (now stress)) ≡ true ⌝ }
+    ensures { λ r. ⌜ r ≡ restingAnswer (restingUnder (skeletonOf (points (skeleton .points) (now (void .entry)) (now (stress .entry)))) load burden solids) ⌝ }
 {
     let most = load + burden;
-    if stress[m - 1] < most {
+    if stress[skeleton.points - 1] < most {
         return Resting::Nowhere;
     }
-    resting_water(solids, most, m, void, stress)
+    resting_water(solids, most, skeleton, void, stress)
 }
 
 // Whether every element rests under load + B: their resting water, from the lowest up as far as they do, is put in the first places.
 pub fn resting_waters<'a>(
-    n: usize,
+    elements: usize,
     load: u64,
     burden: &'a [u64; 128],
     solids: &'a [u64; 128],
-    m: usize,
+    skeleton: Skeleton,
     void: &'a [u64; 64],
     stress: &'a [u64; 64],
     water: &mut [u64; 128],
 ) -> bool
-    requires { ⌜ n ≤ elementLimits .most ⌝ }
+    requires { ⌜ elements ≤ elementLimits .most ⌝ }
     requires { ⌜ load ≤ stressLimits .most ⌝ }
-    requires { ⌜ ((j : ℕ) → j < n → getD (now burden) j 0 ≤ mostBurden) ⌝ }
-    requires { ⌜ ((j : ℕ) → j < n → (0 < getD (now solids) j 0) × (getD (now solids) j 0 ≤ solidsLimits .most)) ⌝ }
-    requires { ⌜ (curveLimits .least ≤ m) × (m ≤ curveLimits .most) ⌝ }
-    requires { ⌜ compressibilitySound (points m (now void) (now stress)) ≡ true ⌝ }
+    requires { ⌜ ((j : ℕ) → j < elements → getD (now burden) j 0 ≤ mostBurden) ⌝ }
+    requires { ⌜ ((j : ℕ) → j < elements → (0 < getD (now solids) j 0) × (getD (now solids) j 0 ≤ solidsLimits .most)) ⌝ }
+    requires { ⌜ (curveLimits .least ≤ (skeleton .points)) × ((skeleton .points) ≤ curveLimits .most) ⌝ }
+    requires { ⌜ compressibilitySound (points (skeleton .points) (now void) (now stress)) ≡ true ⌝ }
     requires { ⌜ length (now water) ≡ 128 ⌝ }
-    ensures { λ r. ⌜ ((site : Site) → site .compressibility ≡ points m (now (void .entry)) (now (stress .entry)) → restingFrom site load (firstPlaces n (now (burden .entry))) (firstPlaces n (now (solids .entry))) ≡ allOrNone r (firstPlaces n (now (water .exit)))) ⌝ }
-    ensures { λ _. ⌜ now (water .exit) ≡ overlaid (restingHeights (points m (now (void .entry)) (now (stress .entry))) load (firstPlaces n (now (burden .entry))) (firstPlaces n (now (solids .entry)))) (now (water .entry)) ⌝ }
+    ensures { λ r. ⌜ restingFrom (skeletonOf (points (skeleton .points) (now (void .entry)) (now (stress .entry)))) load (firstPlaces elements (now (burden .entry))) (firstPlaces elements (now (solids .entry))) ≡ allOrNone r (firstPlaces elements (now (water .exit))) ⌝ }
+    ensures { λ _. ⌜ now (water .exit) ≡ overlaid (restingHeights (skeletonOf (points (skeleton .points) (now (void .entry)) (now (stress .entry)))) load (firstPlaces elements (now (burden .entry))) (firstPlaces elements (now (solids .entry)))) (now (water .entry)) ⌝ }
 {
     let mut j: usize = 0;
-    while j < n {
-        let rest = resting_under(load, burden[j], solids[j], m, void, stress);
+    while j < elements {
+        let rest = resting_under(load, burden[j], solids[j], skeleton, void, stress);
         match rest {
             Resting::At(height) => water[j] = height,
             Resting::Nowhere => return false,

@@ -20,7 +20,7 @@ use Rattle.rules.specs.Load.{firstPoint, tableSound, loadAt, nextTime}
 use Rattle.rules.specs.Quantities.{within, clockLimits, stressLimits}
 use Rattle.rules.proofs.Limits.{within-parts}
 use Rattle.rules.proofs.Points.{from-point, from-segment, from-end, from-last, all-at, neighbours-at}
-use Rattle.points.specs.Checks.{pointKept, trendKept}
+use Rattle.points.specs.Checks.{pointWithin, follows}
 use Rattle.points.specs.declared.checks.Trend.the-variants.{Later}
 
 -- what a sound table says of its points
@@ -81,13 +81,13 @@ module _ (n : ℕ) (time load : List ℕ) where
   begins = eqb ((firstPoint table) .abscissa) 0
 
   abbrev follow : Bool
-  follow = neighbours (trendKept Later) table
+  follow = neighbours (follows Later) table
 
   abbrev limited : Bool
-  limited = all (pointKept clockLimits stressLimits) table
+  limited = all (pointWithin clockLimits stressLimits) table
 
   tests : tableSound table ≡ begins && follow && limited
-  unfolding tableSound trendKept
+  unfolding tableSound follows
   tests = refl
 
   -- a table whose first time is not 0 is not sound; of any other the tests of neighbours and of points say whether it is
@@ -108,12 +108,12 @@ module _ (n : ℕ) (time load : List ℕ) where
         let (front, rest) = both (begins && follow) limited (passed (sym tests ∙ sound)) in (both begins follow front, rest)
 
     rises : (i : ℕ) → i + 1 < n → getD time i 0 < getD time (i + 1) 0
-    unfolding trendKept
-    rises i h = ltb→lt (getD time i 0) (getD time (i + 1) 0) (neighbours-at n time load (trendKept Later) (passes .0 .1) i h)
+    unfolding follows
+    rises i h = ltb→lt (getD time i 0) (getD time (i + 1) 0) (neighbours-at n time load (follows Later) (passes .0 .1) i h)
 
     high : (i : ℕ) → i < n → (getD time i 0 ≤ clockLimits .most) × (getD load i 0 ≤ stressLimits .most)
     high i h =
-        let kept = all-at n time load (pointKept clockLimits stressLimits) (passes .1) i h in
+        let kept = all-at n time load (pointWithin clockLimits stressLimits) (passes .1) i h in
         let (t, l) = both (within clockLimits (getD time i 0)) (within stressLimits (getD load i 0)) kept in
         (within-parts clockLimits (getD time i 0) t .1, within-parts stressLimits (getD load i 0) l .1)
 

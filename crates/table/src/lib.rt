@@ -16,15 +16,15 @@ use rules::quantities::Kind;
 use rules::quantities::Pressure;
 
 // Whether the first time is 0, times strictly rise, and times and loads keep their limits.
-pub fn table_sound<'a>(n: usize, time: &'a [u64; 64], load: &'a [u64; 64]) -> bool
-    requires { ⌜ n ≤ tableLimits .most ⌝ }
-    ensures { λ r. ⌜ r ≡ tableSound (points n (now (time .entry)) (now (load .entry))) ⌝ }
+pub fn table_sound<'a>(table_points: usize, time: &'a [u64; 64], load: &'a [u64; 64]) -> bool
+    requires { ⌜ «table_points» ≤ tableLimits .most ⌝ }
+    ensures { λ r. ⌜ r ≡ tableSound (points «table_points» (now (time .entry)) (now (load .entry))) ⌝ }
 {
-    if n > 0 && time[0] != 0 {
+    if table_points > 0 && time[0] != 0 {
         return false;
     }
-    checks::neighbours_kept(Trend::Later, n, time, load)
-        && checks::points_kept(n, time, load, Kind::Time, Kind::Stress)
+    checks::neighbours_follow(Trend::Later, table_points, time, load)
+        && checks::points_within(table_points, time, load, Kind::Time, Kind::Stress)
 }
 
 // By how much a load changes to another.
@@ -49,14 +49,19 @@ pub fn load_between(time0: u64, load0: u64, time1: u64, load1: u64, clock: u64) 
 }
 
 // The load of a sound table at a time: a stress within its limits.
-pub fn load_at<'a>(n: usize, time: &'a [u64; 64], load: &'a [u64; 64], clock: u64) -> Pressure
-    requires { ⌜ (tableLimits .least ≤ n) × (n ≤ tableLimits .most) ⌝ }
-    requires { ⌜ tableSound (points n (now time) (now load)) ≡ true ⌝ }
-    ensures { λ r. ⌜ r ≡ pressure (loadAt (points n (now (time .entry)) (now (load .entry))) clock) ⌝ }
+pub fn load_at<'a>(
+    table_points: usize,
+    time: &'a [u64; 64],
+    load: &'a [u64; 64],
+    clock: u64,
+) -> Pressure
+    requires { ⌜ (tableLimits .least ≤ «table_points») × («table_points» ≤ tableLimits .most) ⌝ }
+    requires { ⌜ tableSound (points «table_points» (now time) (now load)) ≡ true ⌝ }
+    ensures { λ r. ⌜ r ≡ pressure (loadAt (points «table_points» (now (time .entry)) (now (load .entry))) clock) ⌝ }
     ensures { λ r. ⌜ (pos 0 ≤ℤ r .0) × (r .0 ≤ℤ pos (stressLimits .most)) ⌝ }
 {
     let mut i: usize = 0;
-    while i + 1 < n {
+    while i + 1 < table_points {
         if clock < time[i + 1] {
             return load_between(time[i], load[i], time[i + 1], load[i + 1], clock);
         }
@@ -66,12 +71,12 @@ pub fn load_at<'a>(n: usize, time: &'a [u64; 64], load: &'a [u64; 64], clock: u6
 }
 
 // The first table time after a time, or another time where there is none: the loads do not matter.
-pub fn next_time(n: usize, time: &[u64; 64], clock: u64, otherwise: u64) -> u64
-    requires { ⌜ n ≤ tableLimits .most ⌝ }
-    ensures { λ r. ⌜ ((load : List ℕ) → r ≡ nextTime (points n (now (time .entry)) load) clock otherwise) ⌝ }
+pub fn next_time(table_points: usize, time: &[u64; 64], clock: u64, otherwise: u64) -> u64
+    requires { ⌜ «table_points» ≤ tableLimits .most ⌝ }
+    ensures { λ r. ⌜ ((load : List ℕ) → r ≡ nextTime (points «table_points» (now (time .entry)) load) clock otherwise) ⌝ }
 {
     let mut i: usize = 0;
-    while i < n {
+    while i < table_points {
         if clock < time[i] {
             return time[i];
         }

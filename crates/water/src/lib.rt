@@ -40,22 +40,22 @@ pub fn highest_water(solids: u64, void: u64) -> u64
 
 // The bounds of the water of every element, on a curve from a least to a greatest void ratio.
 pub fn water_bounds<'a>(
-    n: usize,
+    elements: usize,
     solids: &'a [u64; 128],
     least: u64,
     greatest: u64,
     low: &mut [u64; 128],
     high: &mut [u64; 128],
 )
-    requires { ⌜ n ≤ elementLimits .most ⌝ }
-    requires { ⌜ ((j : ℕ) → j < n → (0 < getD (now solids) j 0) × (getD (now solids) j 0 ≤ solidsLimits .most)) ⌝ }
+    requires { ⌜ elements ≤ elementLimits .most ⌝ }
+    requires { ⌜ ((j : ℕ) → j < elements → (0 < getD (now solids) j 0) × (getD (now solids) j 0 ≤ solidsLimits .most)) ⌝ }
     requires { ⌜ (least ≤ voidLimits .most) × (greatest ≤ voidLimits .most) ⌝ }
     requires { ⌜ (length (now low) ≡ 128) × (length (now high) ≡ 128) ⌝ }
-    ensures { λ _. ⌜ now (low .exit) ≡ filled (now (low .entry)) n (λ j. lowestWater (getD (now (solids .entry)) j 0) least) ⌝ }
-    ensures { λ _. ⌜ now (high .exit) ≡ filled (now (high .entry)) n (λ j. highestWater (getD (now (solids .entry)) j 0) greatest) ⌝ }
+    ensures { λ _. ⌜ now (low .exit) ≡ filled (now (low .entry)) elements (λ j. lowestWater (getD (now (solids .entry)) j 0) least) ⌝ }
+    ensures { λ _. ⌜ now (high .exit) ≡ filled (now (high .entry)) elements (λ j. highestWater (getD (now (solids .entry)) j 0) greatest) ⌝ }
 {
     let mut j: usize = 0;
-    while j < n {
+    while j < elements {
         low[j] = lowest_water(solids[j], least);
         high[j] = highest_water(solids[j], greatest);
         j += 1;
@@ -72,21 +72,21 @@ pub fn between(low: u64, high: u64, height: i64) -> bool
 
 // Whether the new water of every element would lie between its bounds.
 pub fn stays_between<'a>(
-    n: usize,
+    elements: usize,
     lowest: i64,
     above: &'a [i64; 128],
     water: &'a [u64; 128],
     low: &'a [u64; 128],
     high: &'a [u64; 128],
 ) -> bool
-    requires { ⌜ n ≤ elementLimits .most ⌝ }
-    requires { ⌜ Movable n lowest (now above) (now water) ⌝ }
-    requires { ⌜ ((j : ℕ) → j < n → (getD (now low) j 0 ≤ waterLimits .most) × (getD (now high) j 0 ≤ waterLimits .most)) ⌝ }
-    ensures { λ r. ⌜ r ≡ everyIndex n (staysAt lowest (now (above .entry)) (now (water .entry)) (now (low .entry)) (now (high .entry))) ⌝ }
+    requires { ⌜ elements ≤ elementLimits .most ⌝ }
+    requires { ⌜ Movable elements lowest (now above) (now water) ⌝ }
+    requires { ⌜ ((j : ℕ) → j < elements → (getD (now low) j 0 ≤ waterLimits .most) × (getD (now high) j 0 ≤ waterLimits .most)) ⌝ }
+    ensures { λ r. ⌜ r ≡ everyIndex elements (staysAt lowest (now (above .entry)) (now (water .entry)) (now (low .entry)) (now (high .entry))) ⌝ }
 {
     let mut enters = lowest;
     let mut j: usize = 0;
-    while j < n {
+    while j < elements {
         let leaves = above[j];
         if !between(low[j], high[j], new_water(water[j], leaves, enters)) {
             return false;
@@ -98,16 +98,16 @@ pub fn stays_between<'a>(
 }
 
 // Moves the water of every element, where no new height is negative.
-pub fn move_water<'a>(n: usize, lowest: i64, above: &'a [i64; 128], water: &mut [u64; 128])
-    requires { ⌜ n ≤ elementLimits .most ⌝ }
-    requires { ⌜ Movable n lowest (now above) (now water) ⌝ }
-    requires { ⌜ ((j : ℕ) → j < n → pos 0 ≤ℤ newWater lowest (now above) (now water) j) ⌝ }
+pub fn move_water<'a>(elements: usize, lowest: i64, above: &'a [i64; 128], water: &mut [u64; 128])
+    requires { ⌜ elements ≤ elementLimits .most ⌝ }
+    requires { ⌜ Movable elements lowest (now above) (now water) ⌝ }
+    requires { ⌜ ((j : ℕ) → j < elements → pos 0 ≤ℤ newWater lowest (now above) (now water) j) ⌝ }
     requires { ⌜ length (now water) ≡ 128 ⌝ }
-    ensures { λ _. ⌜ now (water .exit) ≡ filled (now (water .entry)) n (heightAfter lowest (now (above .entry)) (now (water .entry))) ⌝ }
+    ensures { λ _. ⌜ now (water .exit) ≡ filled (now (water .entry)) elements (heightAfter lowest (now (above .entry)) (now (water .entry))) ⌝ }
 {
     let mut enters = lowest;
     let mut j: usize = 0;
-    while j < n {
+    while j < elements {
         let leaves = above[j];
         water[j] = new_water(water[j], leaves, enters) as u64;
         enters = leaves;

@@ -20,7 +20,7 @@ use Rattle.rules.specs.Opening.{openedRecord, opening}
 use Rattle.rules.specs.Quantities.{clockLimits, budgetLimits}
 use Rattle.rules.specs.Record.{soilOf, layerOf, recordOf, isLayer}
 use Rattle.numbers.specs.Sums.{sum}
-use Rattle.rules.specs.Result.{Returned, withheld}
+use Rattle.rules.specs.Result.{Returned, refusedResult}
 use Rattle.rules.specs.declared.answers.Answer.the-variants.{Done}
 use Rattle.rules.specs.declared.job.Header.{Header}
 use Rattle.rules.specs.declared.record.Frame.{Frame}
@@ -48,18 +48,18 @@ open-into-requires c κs = (
 enum-known-opened : tie.Need-enum-known-opened
 enum-known-opened c = search needs
 
-withheld-requires : tie.Need-withheld-requires
-withheld-requires c κs = search needs
+refused-requires : tie.Need-refused-requires
+refused-requires c κs = search needs
 
 returns : tie.Need-returns
-unfolding withheld
+unfolding refusedResult
 returns c =
     let k = c .before .before in
     let o = k .before .before in
     let s = o .before .before .before .before .before .before .before .before .before .before .before .before in
     let job = s .args .job .now in
     let e = key-refused job (s .args .result .now) (k .opened .given .0 .0) (opened-refused job (k .opened .given .0 .0) (sym (o .open-into .ensures .0) ∙ k .opened .given .1)) in
-    (c .withheld .ensures ∙ number-is e, buffer-is e)
+    (c .refused .ensures ∙ number-is e, buffer-is e)
 
 enum-known-opened-2 : tie.Need-enum-known-opened-2
 enum-known-opened-2 c = search needs
@@ -172,7 +172,7 @@ consolidation-key-spec =
     (tie.spec
     open-into-requires
     enum-known-opened
-    withheld-requires
+    refused-requires
     enum-known-opened-2
     run-to-result-requires
     returns

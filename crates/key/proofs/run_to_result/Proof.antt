@@ -12,7 +12,7 @@ use Rattle.result.specs.ResultLaws.{number-is, buffer-is}
 use Rattle.rules.specs.Calls.{Ending, endedRun}
 use Rattle.rules.specs.Job.{countsOf}
 use Rattle.rules.specs.Record.{soilOf, layerOf, recordOf, withParts, isLayer}
-use Rattle.rules.specs.Result.{withheld, resultBytes, resultSize}
+use Rattle.rules.specs.Result.{refusedResult, resultBytes, resultSize}
 use Rattle.rules.specs.declared.answers.Ended.{Ended}
 use Rattle.rules.specs.declared.record.CurveCounts.{CurveCounts}
 use Rattle.rules.specs.declared.record.Record.{Record}
@@ -32,16 +32,16 @@ layer s = lentWith s (countsOf (s .args .header))
 result-size-requires : tie.Need-result-size-requires
 result-size-requires c κs = counted (layer (c .before)) (c .before .pre .0) .1
 
-withheld-requires : tie.Need-withheld-requires
-withheld-requires c κs = search needs
+refused-requires : tie.Need-refused-requires
+refused-requires c κs = search needs
 
 returns : tie.Need-returns
-unfolding withheld
+unfolding refusedResult
 returns c =
     let s = c .before .before .before .before in
     let short = rw (c .before .before .result-size .ensures) at (c .before .if1 .taken) in
     let (e, w) = no-room (layer s) (s .args .header .end) (s .args .header .budget) (s .args .out .now) short in
-    (c .withheld .ensures ∙ number-is e, (buffer-is e, sym w))
+    (c .refused .ensures ∙ number-is e, (buffer-is e, sym w))
 
 curve-counts-requires : tie.Need-curve-counts-requires
 curve-counts-requires c κs = search needs
@@ -125,7 +125,7 @@ run-to-result-spec =
     tie.close
     (tie.spec
     result-size-requires
-    withheld-requires
+    refused-requires
     returns
     curve-counts-requires
     run-lent-requires

@@ -13,7 +13,7 @@ use Rattle.opening.proofs.SoundDescription as sound
 use Rattle.opening.specs.AcceptingLaws.{Accepts, burdensIn, cause-accepts, header-outside, header-within}
 use Rattle.opening.specs.Lent.{descriptionOf, progressAt}
 use Rattle.opening.specs.declared.causes.Checked.the-variants.{Sound}
-use Rattle.rules.specs.Job.{Description, describedCauses, frameOf, headerKept}
+use Rattle.rules.specs.Job.{Description, describedCauses, frameOf, headerSound}
 use Rattle.rules.specs.Refusals.{firstCause}
 use Rattle.rules.specs.declared.answers.Acceptance.the-variants.{Accepted, Refused}
 use Rattle.rules.specs.declared.answers.Refusal.the-variants.{HeaderOutside, StartOffCurve}
@@ -26,18 +26,18 @@ d s =
     descriptionOf (s .args .header) (s .args .void .now) (s .args .stress .now) (s .args .conductivity-void .now) (s .args .conductivity .now)
     (s .args .solids .now) (s .args .water .now) (s .args .table-time .now) (s .args .table-load .now)
 
-header-kept-requires : tie.Need-header-kept-requires
-header-kept-requires c κs = search needs
+header-sound-requires : tie.Need-header-sound-requires
+header-sound-requires c κs = search needs
 
 returns : tie.Need-returns
 returns c =
     let k = c .before in
     let a = cause-accepts (d (k .before)) HeaderOutside
-    (header-outside (d (k .before)) (sym (k .header-kept .ensures) ∙ not-true (k .header-kept .result) (c .if1 .taken))) in
+    (header-outside (d (k .before)) (sym (k .header-sound .ensures) ∙ not-true (k .header-sound .result) (c .if1 .taken))) in
     (a .answers, (a .water-left, a .burden-left _))
 
-kept : (c : tie.Else1) → headerKept (c .before .before .args .header) ≡ true
-kept c = sym (c .before .header-kept .ensures) ∙ not-false (c .before .header-kept .result) (c .if1 .left)
+kept : (c : tie.Else1) → headerSound (c .before .before .args .header) ≡ true
+kept c = sym (c .before .header-sound .ensures) ∙ not-false (c .before .header-sound .result) (c .if1 .left)
 
 described-cause-requires : tie.Need-described-cause-requires
 described-cause-requires c κs = kept (c .before)
@@ -167,7 +167,7 @@ pub accept-spec : {M : Type 1} → statement M
 accept-spec =
     tie.close
     (tie.spec
-    header-kept-requires
+    header-sound-requires
     returns
     described-cause-requires
     enum-known-checked

@@ -6,7 +6,7 @@ use mathlib.Core.Path.{_≡_, sym, _∙_}
 use Rattle.lent.specs.Standing.{counted}
 use Rattle.result.specs.ResultLaws.{no-layer, short-buffer, result-written, number-is, buffer-is}
 use Rattle.rules.specs.Record.{isLayer}
-use Rattle.rules.specs.Result.{withheld, resultSize}
+use Rattle.rules.specs.Result.{refusedResult, resultSize}
 use borrow.Author.Needs.{needs}
 use Rattle.result.proofs.write_result.Statement.{statement}
 use Rattle.result.proofs.write_result.Tie as tie
@@ -14,16 +14,16 @@ use Rattle.result.proofs.write_result.Tie as tie
 is-layer-requires : tie.Need-is-layer-requires
 is-layer-requires c κs = search needs
 
-withheld-requires : tie.Need-withheld-requires
-withheld-requires c κs = search needs
+refused-requires : tie.Need-refused-requires
+refused-requires c κs = search needs
 
 returns : tie.Need-returns
-unfolding withheld
+unfolding refusedResult
 returns c =
     let s = c .before .before .before .before in
     let no = sym (c .before .before .is-layer .ensures) ∙ not-true _ (c .before .if1 .taken) in
     let e = no-layer (s .args .r) (s .args .stop) (s .args .steps) (s .args .out .now) no in
-    (c .withheld .ensures ∙ number-is e, buffer-is e)
+    (c .refused .ensures ∙ number-is e, buffer-is e)
 
 -- the record is a layer
 standing : (c : tie.Else1) → isLayer (c .before .before .before .args .r) ≡ true
@@ -32,17 +32,17 @@ standing c = sym (c .before .is-layer .ensures) ∙ not-false _ (c .if1 .left)
 result-size-requires : tie.Need-result-size-requires
 result-size-requires c κs = counted (c .before .before .before .args .r) (standing c) .1
 
-withheld-requires-2 : tie.Need-withheld-requires-2
-withheld-requires-2 c κs = search needs
+refused-requires-2 : tie.Need-refused-requires-2
+refused-requires-2 c κs = search needs
 
 returns-2 : tie.Need-returns-2
-unfolding withheld
+unfolding refusedResult
 returns-2 c =
     let f = c .before .before .before in
     let s = f .before .before .before in
     let short = rw (c .before .before .result-size .ensures) at (c .before .if2 .taken) in
     let e = short-buffer (s .args .r) (s .args .stop) (s .args .steps) (s .args .out .now) (standing f) short in
-    (c .withheld2 .ensures ∙ number-is e, buffer-is e)
+    (c .refused2 .ensures ∙ number-is e, buffer-is e)
 
 -- and its result has room
 room : (c : tie.Else2) →
@@ -69,10 +69,10 @@ write-result-spec =
     tie.close
     (tie.spec
     is-layer-requires
-    withheld-requires
+    refused-requires
     returns
     result-size-requires
-    withheld-requires-2
+    refused-requires-2
     returns-2
     write-layer-requires
     same-length

@@ -82,15 +82,15 @@ returns-3 c =
     (c .refused3 .ensures ∙ sym (run-outside (r k) (end n) (budget n) (is k) (not-early n) (clock-tells (end n) (sym (c .before .enum-told2 .given .1) ∙ n .new .ensures)) refl refl))
 
 -- the end keeps its limits
-module _ (c : tie.After-holds) where
+module _ (c : tie.After-within) where
   abbrev n₁ : tie.After-new
   n₁ = c .before .before .before
 
   timed : within clockLimits (end n₁) ≡ true
   timed = clock-tells (end n₁) (sym (c .before .enum-told .given .1) ∙ n₁ .new .ensures) .0
 
-holds-requires : tie.Need-holds-requires
-holds-requires c κs = search needs
+within-requires : tie.Need-within-requires
+within-requires c κs = search needs
 
 refused-requires-4 : tie.Need-refused-requires-4
 refused-requires-4 c κs = search needs
@@ -101,7 +101,7 @@ returns-4 c =
     let n = n₁ h in
     let k = k₁ n in
     in-numbers (r k) (Run (end n) (budget n))
-    (c .refused4 .ensures ∙ sym (run-outside (r k) (end n) (budget n) (is k) (not-early n) (timed h) (sym (h .holds .ensures) ∙ not-true _ (c .before .if3 .taken)) refl))
+    (c .refused4 .ensures ∙ sym (run-outside (r k) (end n) (budget n) (is k) (not-early n) (timed h) (sym (h .within .ensures) ∙ not-true _ (c .before .if3 .taken)) refl))
 
 run-layer-requires : tie.Need-run-layer-requires
 run-layer-requires c κs =
@@ -111,7 +111,7 @@ run-layer-requires c κs =
       (
         n .before .if2 .left,
         within-parts clockLimits (end n) (passed (timed h)) .1,
-        within-parts budgetLimits (budget n) (passed (sym (h .holds .ensures) ∙ not-false _ (c .if3 .left))) .1,
+        within-parts budgetLimits (budget n) (passed (sym (h .within .ensures) ∙ not-false _ (c .if3 .left))) .1,
       ),
     )
 
@@ -133,7 +133,7 @@ take-run-spec =
     enum-told-2
     refused-requires-3
     returns-3
-    holds-requires
+    within-requires
     refused-requires-4
     returns-4
     run-layer-requires

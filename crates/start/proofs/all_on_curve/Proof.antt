@@ -18,11 +18,11 @@ abbrev onAt : (curve : List Point) (solids water : List ℕ) → ℕ → Bool
 onAt curve solids water j = isOn (effectiveStress (skeletonOf curve) (getD solids j 0) (getD water j 0))
 
 abbrev Inv-loop : tie.InvT-loop
-Inv-loop n solids water m void stress hint₀ j₀ hint j =
-    (j ≤ n) × (restPasses n (onAt (points m void stress) solids water) j ≡ everyIndex n (onAt (points m void stress) solids water))
+Inv-loop n solids water skeleton void stress hint₀ j₀ hint j =
+    (j ≤ n) × (restPasses n (onAt (points (skeleton .points) void stress) solids water) j ≡ everyIndex n (onAt (points (skeleton .points) void stress) solids water))
 
 abbrev μ-loop : tie.MeasureT-loop
-μ-loop n solids water m void stress hint₀ j₀ hint j = n - j
+μ-loop n solids water skeleton void stress hint₀ j₀ hint j = n - j
 
 module _ (l : tie.At-loop Inv-loop μ-loop) where
   abbrev s : tie.Start Inv-loop μ-loop
@@ -32,7 +32,7 @@ module _ (l : tie.At-loop Inv-loop μ-loop) where
   j = l .loop .j
 
   abbrev test : ℕ → Bool
-  test = onAt (points (s .args .m) (s .args .void .now) (s .args .stress .now)) (s .args .solids .now) (s .args .water .now)
+  test = onAt (points (s .args .skeleton .points) (s .args .void .now) (s .args .stress .now)) (s .args .solids .now) (s .args .water .now)
 
 loop-holds : tie.Need-loop-holds Inv-loop μ-loop
 loop-holds c = (omega arith, all-rest _ _)
@@ -61,7 +61,7 @@ returns : tie.Need-returns Inv-loop μ-loop
 returns c =
     let l = c .before .before .before .before .before .before in
     let e = c .before .before .effective-stress .ensures in
-    index-fails (s l .args .n) (test l) (j l) (l .loop .inv .1) (omega arith)
+    index-fails (s l .args .elements) (test l) (j l) (l .loop .inv .1) (omega arith)
     (rw (e .0) at (sym (c .before .is-on .ensures) ∙ not-true _ (c .if1 .taken))) ∙ sym (each-on _ _ _ _)
 
 add-j : tie.Need-add-j Inv-loop μ-loop
@@ -75,12 +75,12 @@ loop-again c =
     let l = c .before .before .before .before .before .before in
     let e = c .before .before .effective-stress .ensures in (
       omega arith,
-      index-goes (s l .args .n) (test l) (j l) (l .loop .inv .1) (omega arith)
+      index-goes (s l .args .elements) (test l) (j l) (l .loop .inv .1) (omega arith)
           (rw (e .0) at (sym (c .before .is-on .ensures) ∙ not-false _ (c .if1 .left))),
     )
 
 returns-2 : tie.Need-returns-2 Inv-loop μ-loop
-returns-2 c = let l = c .before in index-ends (s l .args .n) (test l) (j l) (l .loop .inv .1) (omega arith) ∙ sym (each-on _ _ _ _)
+returns-2 c = let l = c .before in index-ends (s l .args .elements) (test l) (j l) (l .loop .inv .1) (omega arith) ∙ sym (each-on _ _ _ _)
 
 pub all-on-curve-spec : {M : Type 1} → statement M
 all-on-curve-spec =

@@ -22,8 +22,8 @@ element-copy-out-if1 c = search needs
 returns : tie.Need-returns
 unfolding restingAnswer
 returns c =
-    let s = c .before .before in
-    let last = last-stress (s .args .m) (s .args .void .now) (s .args .stress .now) (omega arith) in
+    let s = c .before .before .before in
+    let last = last-stress (s .args .skeleton .points) (s .args .void .now) (s .args .stress .now) (omega arith) in
     sym (ap restingAnswer (above-last _ _ _ (s .args .solids) (rw last (c .if1 .taken))))
 
 resting-water-requires : tie.Need-resting-water-requires
@@ -31,8 +31,8 @@ resting-water-requires c κs = search needs
 
 returns-2 : tie.Need-returns-2
 returns-2 c =
-    let s = c .before .before .before in
-    let last = last-stress (s .args .m) (s .args .void .now) (s .args .stress .now) (omega arith) in
+    let s = c .before .before .before .before in
+    let last = last-stress (s .args .skeleton .points) (s .args .void .now) (s .args .stress .now) (omega arith) in
     c .resting-water .ensures ∙ sym (ap restingAnswer (under-last _ _ _ (s .args .solids) (rw last (c .before .if1 .left))))
 
 pub resting-under-spec : {M : Type 1} → statement M

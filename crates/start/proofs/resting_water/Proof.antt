@@ -15,23 +15,23 @@ use Rattle.start.proofs.resting_water.Statement.{statement}
 use Rattle.start.proofs.resting_water.Tie as tie
 
 abbrev Inv-loop : tie.InvT-loop
-Inv-loop solids most m void stress high₀ low₀ high low =
-    (low ≤ high) × (high ≤ high₀) × T (restsAt (points m void stress) solids most high) ×
-    ((U : ℕ) → U < low → T (restsAt (points m void stress) solids most U) → ⊥)
+Inv-loop solids most skeleton void stress high₀ low₀ high low =
+    (low ≤ high) × (high ≤ high₀) × T (restsAt (points (skeleton .points) void stress) solids most high) ×
+    ((U : ℕ) → U < low → T (restsAt (points (skeleton .points) void stress) solids most U) → ⊥)
 
 abbrev μ-loop : tie.MeasureT-loop
-μ-loop solids most m void stress high₀ low₀ high low = high - low
+μ-loop solids most skeleton void stress high₀ low₀ high low = high - low
 
-curve : (s : tie.Start Inv-loop μ-loop) → Compressible (s .args .m) (s .args .void .now) (s .args .stress .now)
-curve s = compressible (s .args .m) (s .args .void .now) (s .args .stress .now) (s .pre .1 .1)
+curve : (s : tie.Start Inv-loop μ-loop) → Compressible (s .args .skeleton .points) (s .args .void .now) (s .args .stress .now)
+curve s = compressible (s .args .skeleton .points) (s .args .void .now) (s .args .stress .now) (s .pre .1 .1)
 
 -- an element rests with some water
 abbrev rests : (s : tie.Start Inv-loop μ-loop) → ℕ → Bool
-rests s W = restsAt (points (s .args .m) (s .args .void .now) (s .args .stress .now)) (s .args .solids) (s .args .most) W
+rests s W = restsAt (points (s .args .skeleton .points) (s .args .void .now) (s .args .stress .now)) (s .args .solids) (s .args .most) W
 
 module _ (l : tie.At-loop Inv-loop μ-loop) where
   abbrev s : tie.Start Inv-loop μ-loop
-  s = l .before .before .before .before .before .before .before
+  s = l .before .before .before .before .before .before .before .before
 
   abbrev low : ℕ
   low = l .loop .low
@@ -43,13 +43,13 @@ module _ (l : tie.At-loop Inv-loop μ-loop) where
   middle = low + (high - low) / 2
 
   high-most : high ≤ waterLimits .most
-  high-most = omega (arith, l .loop .inv .1, l .before .before .before .before .before .highest-water .ensures .1)
+  high-most = omega (arith, l .loop .inv .1, l .before .before .before .before .before .before .highest-water .ensures .1)
 
   -- no height up to a middle that does not rest does
   below-middle : low < high → rests s middle ≡ false → (U : ℕ) → U < middle + 1 → T (rests s U) → ⊥
   below-middle h fails U k =
       none-below _ _ _ (s .pre .1 .0 .0) (s .pre .1 .1) _ (s .pre .0 .0) _ middle
-      (omega (arith, l .loop .inv .1, l .before .before .before .before .before .highest-water .ensures .0)) fails U (omega arith)
+      (omega (arith, l .loop .inv .1, l .before .before .before .before .before .before .highest-water .ensures .0)) fails U (omega arith)
 
 element-copy-out-highest-water : tie.Need-element-copy-out-highest-water Inv-loop μ-loop
 element-copy-out-highest-water c = omega arith
@@ -78,13 +78,13 @@ element-copy-out-lowest-water : tie.Need-element-copy-out-lowest-water Inv-loop 
 element-copy-out-lowest-water c = omega arith
 
 lowest-water-requires : tie.Need-lowest-water-requires Inv-loop μ-loop
-lowest-water-requires c κs = let s = c .before .before .before .before .before in (s .pre .0 .1, curve s .void-high _ (omega arith))
+lowest-water-requires c κs = let s = c .before .before .before .before .before .before in (s .pre .0 .1, curve s .void-high _ (omega arith))
 
 loop-holds : tie.Need-loop-holds Inv-loop μ-loop
 loop-holds c =
-    let s = c .before .before .before .before .before .before in
+    let s = c .before .before .before .before .before .before .before in
     let between = rests-between _ _ _ (s .pre .1 .0 .0) (s .pre .1 .1) _ (s .pre .0 .0) (s .args .most) in
-    let at-highest = passed (sym (c .before .before .before .rests .ensures) ∙ not-false _ (c .before .before .if1 .left)) in (
+    let at-highest = passed (sym (c .before .before .before .before .rests .ensures) ∙ not-false _ (c .before .before .before .if1 .left)) in (
       rw (c .lowest-water .ensures .0) (between _ at-highest .0),
       le-refl _,
       at-highest,

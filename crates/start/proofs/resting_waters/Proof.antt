@@ -7,18 +7,19 @@ use mathlib.Core.Path.{_≡_, sym, ap, _∙_}
 use Rattle.numbers.specs.Arrays.{filled}
 use Rattle.numbers.specs.Filled.{filled-zero, filled-store}
 use Rattle.rules.specs.Curve.{points}
+use Rattle.rules.specs.Layer.{skeletonOf}
 use Rattle.start.specs.Rest.{allOrNone}
 use Rattle.start.proofs.Filling.{answer-at, answer-nowhere, restingAt, heightAt, height-is, filling-stops, filling-ends}
 use Rattle.start.proofs.resting_waters.Statement.{statement}
 use Rattle.start.proofs.resting_waters.Tie as tie
 
 abbrev Inv-loop : tie.InvT-loop
-Inv-loop n load burden solids m void stress water₀ j₀ water j =
-    (j ≤ n) × (water ≡ filled water₀ j (heightAt (points m void stress) load burden solids)) ×
-    ((i : ℕ) → i < j → restingAt (points m void stress) load burden solids i ≡ some (heightAt (points m void stress) load burden solids i))
+Inv-loop n load burden solids skeleton void stress water₀ j₀ water j =
+    (j ≤ n) × (water ≡ filled water₀ j (heightAt (skeletonOf (points (skeleton .points) void stress)) load burden solids)) ×
+    ((i : ℕ) → i < j → restingAt (skeletonOf (points (skeleton .points) void stress)) load burden solids i ≡ some (heightAt (skeletonOf (points (skeleton .points) void stress)) load burden solids i))
 
 abbrev μ-loop : tie.MeasureT-loop
-μ-loop n load burden solids m void stress water₀ j₀ water j = n - j
+μ-loop n load burden solids skeleton void stress water₀ j₀ water j = n - j
 
 loop-holds : tie.Need-loop-holds Inv-loop μ-loop
 loop-holds c = (omega arith, sym (filled-zero _ _), λ i h. absurd (omega arith))

@@ -17,8 +17,8 @@ Inv-loop n time load clock i₀ i =
 abbrev μ-loop : tie.MeasureT-loop
 μ-loop n time load clock i₀ i = n - i
 
-sound : (s : tie.Start Inv-loop μ-loop) → Tabled (s .args .n) (s .args .time .now) (s .args .load .now)
-sound s = tabled (s .args .n) (s .args .time .now) (s .args .load .now) (s .pre .1)
+sound : (s : tie.Start Inv-loop μ-loop) → Tabled (s .args .table-points) (s .args .time .now) (s .args .load .now)
+sound s = tabled (s .args .table-points) (s .args .time .now) (s .args .load .now) (s .pre .1)
 
 loop-holds : tie.Need-loop-holds Inv-loop μ-loop
 loop-holds c = (omega arith, (omega (arith, sound c .first-time (omega arith)), refl))
@@ -77,7 +77,7 @@ returns c =
     let l = c .before .before .before .before .before .before .before .before in
     let a = l .before .args in
     let (same, stress) = c .load-between .ensures in
-    let here = load-here (a .n) (a .time .now) (a .load .now) (l .loop .i) (a .clock) (omega arith) (omega arith) in
+    let here = load-here (a .table-points) (a .time .now) (a .load .now) (l .loop .i) (a .clock) (omega arith) (omega arith) in
     (rw (← l .loop .inv .1 .1, here) same, stress)
 
 add-i : tie.Need-add-i Inv-loop μ-loop
@@ -90,7 +90,7 @@ loop-again : tie.Need-loop-again Inv-loop μ-loop
 loop-again c =
     let l = c .before .before .before in
     let a = l .before .args in
-    let later = load-later (a .n) (a .time .now) (a .load .now) (l .loop .i) (a .clock) (omega arith) (omega arith) in
+    let later = load-later (a .table-points) (a .time .now) (a .load .now) (l .loop .i) (a .clock) (omega arith) (omega arith) in
     (omega arith, (omega arith, sym later ∙ l .loop .inv .1 .1))
 
 mul-t30 : tie.Need-mul-t30 Inv-loop μ-loop
@@ -108,7 +108,7 @@ returns-2 c =
     let l = c .before .before in
     let a = l .before .args in
     let high = sound (l .before) .load-high (l .loop .i) (omega arith) in
-    let last = load-last (a .n) (a .time .now) (a .load .now) (l .loop .i) (a .clock) (omega arith) in
+    let last = load-last (a .table-points) (a .time .now) (a .load .now) (l .loop .i) (a .clock) (omega arith) in
     simp (readUnsigned (getD (a .load .now) (l .loop .i) 0) (omega arith))
     (ap pressure (sym last ∙ l .loop .inv .1 .1), (omega signed, omega signed))
 

@@ -36,7 +36,7 @@ returns : tie.Need-returns Inv-loop μ-loop
 returns c load =
     let l = c .before .before .before .before in
     let a = l .before .args in
-    let here = next-here (a .n) (a .time .now) load (l .loop .i) (a .clock) (a .otherwise) (omega arith) (omega arith) in
+    let here = next-here (a .table-points) (a .time .now) load (l .loop .i) (a .clock) (a .otherwise) (omega arith) (omega arith) in
     sym here ∙ l .loop .inv .1 load
 
 add-i : tie.Need-add-i Inv-loop μ-loop
@@ -52,7 +52,7 @@ loop-again c =
     let t = a .time .now in (
       omega arith,
       λ load.
-          let later = next-later (a .n) t load (l .loop .i) (a .clock) (a .otherwise) (omega arith) (omega arith) in
+          let later = next-later (a .table-points) t load (l .loop .i) (a .clock) (a .otherwise) (omega arith) (omega arith) in
           sym later ∙ l .loop .inv .1 load,
     )
 
@@ -60,7 +60,7 @@ returns-2 : tie.Need-returns-2 Inv-loop μ-loop
 returns-2 c load =
     let l = c .before in
     let a = l .before .args in
-    sym (next-none (a .n) (a .time .now) load (l .loop .i) (a .clock) (a .otherwise) (omega arith)) ∙ l .loop .inv .1 load
+    sym (next-none (a .table-points) (a .time .now) load (l .loop .i) (a .clock) (a .otherwise) (omega arith)) ∙ l .loop .inv .1 load
 
 pub next-time-spec : {M : Type 1} → statement M
 next-time-spec =

@@ -10,7 +10,7 @@ use Rattle.table.proofs.table_sound.Statement.{statement}
 use Rattle.table.proofs.table_sound.Tie as tie
 
 -- past its test the first time, if there is one, is 0
-first-time : (c : tie.Joined1) → 0 < c .before .args .n → getD (c .before .args .time .now) 0 0 ≡ 0
+first-time : (c : tie.Joined1) → 0 < c .before .args .table-points → getD (c .before .args .time .now) 0 0 ≡ 0
 first-time c =
     ⊎-elim (λ w h. eqb-true _ _ (not-false _ (w .2 .left))) (λ w h. absurd (omega (arith, w .left))) (c .if1 .came)
 
@@ -21,27 +21,27 @@ returns : tie.Need-returns
 returns c =
     let a = c .before .before .before .args in
     let late = eqb-false (getD (a .time .now) 0 0) 0 (not-true _ (c .if2 .taken)) in
-    sym (begins-late (a .n) (a .time .now) (a .load .now) (omega arith) late)
+    sym (begins-late (a .table-points) (a .time .now) (a .load .now) (omega arith) late)
 
-neighbours-kept-requires : tie.Need-neighbours-kept-requires
-neighbours-kept-requires c κs = search needs
+neighbours-follow-requires : tie.Need-neighbours-follow-requires
+neighbours-follow-requires c κs = search needs
 
-points-kept-requires : tie.Need-points-kept-requires
-points-kept-requires c κs = search needs
+points-within-requires : tie.Need-points-within-requires
+points-within-requires c κs = search needs
 
 returns-2 : tie.Need-returns-2
 returns-2 c =
     let j = c .before .before .before in
     let a = j .before .args in
-    let sound = begins-at-0 (a .n) (a .time .now) (a .load .now) (first-time j) in
-    rw (sound, ← c .before .before .neighbours-kept .ensures, c .before .if3 .taken) (c .points-kept .ensures)
+    let sound = begins-at-0 (a .table-points) (a .time .now) (a .load .now) (first-time j) in
+    rw (sound, ← c .before .before .neighbours-follow .ensures, c .before .if3 .taken) (c .points-within .ensures)
 
 returns-3 : tie.Need-returns-3
 returns-3 c =
     let j = c .before .before in
     let a = j .before .args in
-    let sound = begins-at-0 (a .n) (a .time .now) (a .load .now) (first-time j) in
-    rw (sound, ← c .before .neighbours-kept .ensures, c .if3 .left)
+    let sound = begins-at-0 (a .table-points) (a .time .now) (a .load .now) (first-time j) in
+    rw (sound, ← c .before .neighbours-follow .ensures, c .if3 .left)
 
 pub table-sound-spec : {M : Type 1} → statement M
 table-sound-spec =
@@ -49,7 +49,7 @@ table-sound-spec =
     (tie.spec
     element-copy-out-if2
     returns
-    neighbours-kept-requires
-    points-kept-requires
+    neighbours-follow-requires
+    points-within-requires
     returns-2
     returns-3)

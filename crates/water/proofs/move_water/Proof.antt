@@ -45,7 +45,7 @@ module _ (l : tie.At-loop Inv-loop μ-loop) where
   abbrev new : ℕ → ℕ
   new = heightAfter lowest above water
 
-  abbrev movable : Movable (s .args .n) lowest above water
+  abbrev movable : Movable (s .args .elements) lowest above water
   movable = s .pre .1 .0
 
   back : toZ w64 (ofZ w64 lowest) ≡ lowest
@@ -61,10 +61,10 @@ module _ (l : tie.At-loop Inv-loop μ-loop) where
   here : getD (l .loop .water) j 0 ≡ getD water j 0
   here = ap (λ (w : List ℕ). getD w j 0) moved ∙ getD-filled-past water j new j 0 (le-refl j)
 
-  enters-within : j < s .args .n → Within (getD (lowest ∷ above) j (pos 0)) mostFlow
-  enters-within h = entering (s .args .n) lowest above water movable j h
+  enters-within : j < s .args .elements → Within (getD (lowest ∷ above) j (pos 0)) mostFlow
+  enters-within h = entering (s .args .elements) lowest above water movable j h
 
-  above-fits : j < s .args .n → SFits w64 (getD above j (pos 0))
+  above-fits : j < s .args .elements → SFits w64 (getD above j (pos 0))
   above-fits h = within-fits tt (movable .above-within j h)
 
 loop-holds : tie.Need-loop-holds Inv-loop μ-loop
@@ -92,13 +92,13 @@ module _ (c : tie.After-new-water Inv-loop μ-loop) where
   abbrev at : tie.At-loop Inv-loop μ-loop
   at = c .before .before .before .before
 
-  result-is : j at < s at .args .n → c .new-water .result ≡ newWater (lowest at) (above at) (water at) (j at)
+  result-is : j at < s at .args .elements → c .new-water .result ≡ newWater (lowest at) (above at) (water at) (j at)
   result-is h = simp (here at, readBack (above-fits at h), enters-is at) at (c .new-water .ensures)
 
   result-fits : SFits w64 (c .new-water .result)
   result-fits = record { sfits = c .new-water .ok }
 
-  not-negative : j at < s at .args .n → pos 0 ≤ℤ c .new-water .result
+  not-negative : j at < s at .args .elements → pos 0 ≤ℤ c .new-water .result
   not-negative h = rw (result-is h) (s at .pre .1 .1 .0 (j at) h)
 
 cast-water : tie.Need-cast-water Inv-loop μ-loop

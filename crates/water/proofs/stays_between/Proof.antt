@@ -43,7 +43,7 @@ module _ (l : tie.At-loop Inv-loop μ-loop) where
   abbrev test : ℕ → Bool
   test = staysAt lowest above (s .args .water .now) (s .args .low .now) (s .args .high .now)
 
-  abbrev movable : Movable (s .args .n) lowest above (s .args .water .now)
+  abbrev movable : Movable (s .args .elements) lowest above (s .args .water .now)
   movable = s .pre .1 .0
 
   back : toZ w64 (ofZ w64 lowest) ≡ lowest
@@ -52,14 +52,14 @@ module _ (l : tie.At-loop Inv-loop μ-loop) where
   enters-is : toZ w64 (l .loop .enters) ≡ getD (lowest ∷ above) j (pos 0)
   enters-is = simp back at (l .loop .inv .1)
 
-  rest : restPasses (s .args .n) test j ≡ everyIndex (s .args .n) test
+  rest : restPasses (s .args .elements) test j ≡ everyIndex (s .args .elements) test
   rest = simp back at (l .loop .inv .2)
 
   -- what enters is the flow of the face below
-  enters-within : j < s .args .n → Within (getD (lowest ∷ above) j (pos 0)) mostFlow
-  enters-within h = entering (s .args .n) lowest above (s .args .water .now) movable j h
+  enters-within : j < s .args .elements → Within (getD (lowest ∷ above) j (pos 0)) mostFlow
+  enters-within h = entering (s .args .elements) lowest above (s .args .water .now) movable j h
 
-  above-fits : j < s .args .n → SFits w64 (getD above j (pos 0))
+  above-fits : j < s .args .elements → SFits w64 (getD above j (pos 0))
   above-fits h = within-fits tt (movable .above-within j h)
 
 loop-holds : tie.Need-loop-holds Inv-loop μ-loop
@@ -100,7 +100,7 @@ between-requires c κs = s (c .before .before .before .before .before .before) .
 
 -- what was tested
 tested : (c : tie.After-between Inv-loop μ-loop) → let l = c .before .before .before .before .before .before .before in
-    j l < s l .args .n → test l (j l) ≡ c .between .result
+    j l < s l .args .elements → test l (j l) ≡ c .between .result
 tested c h =
     let l = c .before .before .before .before .before .before .before in
     let w = simp (readBack (above-fits l h), enters-is l) at (c .before .new-water .ensures) in
@@ -110,7 +110,7 @@ tested c h =
 returns : tie.Need-returns Inv-loop μ-loop
 returns c =
     let l = c .before .before .before .before .before .before .before .before in
-    index-fails (s l .args .n) (test l) (j l) (rest l) (omega arith) (tested (c .before) (omega arith) ∙ not-true _ (c .if1 .taken))
+    index-fails (s l .args .elements) (test l) (j l) (rest l) (omega arith) (tested (c .before) (omega arith) ∙ not-true _ (c .if1 .taken))
 
 add-j : tie.Need-add-j Inv-loop μ-loop
 add-j c = omega arith
@@ -124,11 +124,11 @@ loop-again c =
     simp (back l) (
       omega arith,
       rw (add-one (j l)) (readBack (above-fits l (omega arith))),
-      index-goes (s l .args .n) (test l) (j l) (rest l) (omega arith) (tested (c .before) (omega arith) ∙ not-false _ (c .if1 .left)),
+      index-goes (s l .args .elements) (test l) (j l) (rest l) (omega arith) (tested (c .before) (omega arith) ∙ not-false _ (c .if1 .left)),
     )
 
 returns-2 : tie.Need-returns-2 Inv-loop μ-loop
-returns-2 c = let l = c .before in index-ends (s l .args .n) (test l) (j l) (rest l) (omega arith)
+returns-2 c = let l = c .before in index-ends (s l .args .elements) (test l) (j l) (rest l) (omega arith)
 
 pub stays-between-spec : {M : Type 1} → statement M
 stays-between-spec =

@@ -46,7 +46,7 @@ module _ (c : tie.After-read-layer) where
     frame-is = refl;
     progress-is = refl;
     water-is = refl;
-    slope-is = set-up .prepare .ensures .0;
+    steepness-is = set-up .prepare .ensures .0;
     sensitivity-is = set-up .prepare .ensures .1 .0;
     low-is = set-up .prepare .ensures .1 .1 .0;
     high-is = set-up .prepare .ensures .1 .1 .1;

@@ -13,19 +13,19 @@ use Rattle.calls.specs.Read.{ReadAs, lentOf, lent-is, lent-read}
 use Rattle.calls.specs.declared.step.Stepped.{Stepped}
 use Rattle.lent.specs.CallLaws.{on-layer, refused-on-layer}
 use Rattle.lent.specs.Progress.{later}
-use Rattle.lent.specs.Reads.{resistances, readable, waters-most, limited, bounds-most, slope-range, too-long-is, flows, flows-are, leaves-is, stepped-is}
+use Rattle.lent.specs.Reads.{resistances, readable, waters-most, limited, bounds-most, steepness-range, too-long-is, flows, flows-are, leaves-is, stepped-is}
 use Rattle.lent.specs.Standing.{site-is, state-is, curve, counted, sensitivity}
 use Rattle.lent.specs.StepLaws.{step-too-long, step-off-curve, step-taken, worked-as, within-as, outer-flows}
-use Rattle.motion.proofs.MovingAt.{keeps, moves-on}
-use Rattle.motion.proofs.TurningAt.{readable-as, moved-as, water-as, leaves-off, flows-on}
-use Rattle.motion.specs.Moving.{movedBy, waterAfter, staysOn}
-use Rattle.motion.specs.Turning.{Worked, some-bounds}
+use Rattle.layer_step.proofs.MovingAt.{keeps, moves-on}
+use Rattle.layer_step.proofs.TurningAt.{readable-as, moved-as, water-as, leaves-off, flows-on}
+use Rattle.layer_step.specs.Moving.{movedBy, waterAfter, staysOn}
+use Rattle.layer_step.specs.Turning.{Worked, some-bounds}
 use Rattle.numbers.specs.Arrays.{overlaid}
 use Rattle.numbers.specs.Interval.{Within, within-add, within-sub, within-le, within-fits}
 use Rattle.numbers.specs.Lists.{firstOr, lastOr}
 use Rattle.numbers.specs.Searches.{passed}
 use Rattle.numbers.specs.Signed.{readBack}
-use Rattle.reach.specs.Reach.{Limited, isTooLong}
+use Rattle.step_length.specs.Reach.{Limited, isTooLong}
 use Rattle.rules.proofs.Limits.{within-parts}
 use Rattle.rules.specs.Calls.{called}
 use Rattle.rules.specs.Layer.{State, elements}
@@ -46,7 +46,7 @@ use Rattle.calls.proofs.step.step_read.Tie as tie
 abbrev Given : tie.Start → Record → Type 0
 Given s x =
     let a = s .args in
-    ReadAs x (a .frame) (a .progress) (a .slope) (a .sensitivity .now) (a .low .now) (a .high .now) (a .excess .now) (a .resistance .now) (a .water .now)
+    ReadAs x (a .frame) (a .progress) (a .steepness) (a .sensitivity .now) (a .low .now) (a .high .now) (a .excess .now) (a .resistance .now) (a .water .now)
 
 module _ (s : tie.Start) where
   abbrev n : ℕ
@@ -71,8 +71,8 @@ module _ (s : tie.Start) where
     abbrev is : isLayer r ≡ true
     is = read .is
 
-    worked-now : Worked n (curve r is) (r .layer .solids) (s .args .sensitivity .now) (s .args .low .now) (s .args .high .now) (s .args .slope)
-    worked-now = worked-as r is (read .sensitivity-is) (read .low-is) (read .high-is) (read .slope-is)
+    worked-now : Worked n (curve r is) (r .layer .solids) (s .args .sensitivity .now) (s .args .low .now) (s .args .high .now) (s .args .steepness)
+    worked-now = worked-as r is (read .sensitivity-is) (read .low-is) (read .high-is) (read .steepness-is)
 
     answers : (o : Stepped) (w : List ℕ) → stepAnswered r o w ≡ called r (Step t) → stepAnswered x o w ≡ called x (Step t)
     answers o w = subst (λ (y : Record). stepAnswered y o w ≡ called y (Step t)) (sym (lent-is given))
@@ -93,7 +93,7 @@ too-long-requires c κs =
     let g = c .pre .0 .read in (
       counted (r c g) (is c g),
       (
-        range-as (read c g .slope-is) (slope-range (r c g) (is c g)),
+        range-as (read c g .steepness-is) (steepness-range (r c g) (is c g)),
         (limited-as (n c) (read c g .resistance-is) (read c g .sensitivity-is) (limited (r c g) (is c g)), t-within c .1),
       ),
     )
@@ -113,9 +113,9 @@ module _ (c : tie.After-too-long) {x : Record} (given : Given (c .before) x) whe
   tested : c .too-long .result ≡ tooLong (recordSite r₁) (recordState r₁) (t s)
   tested =
       c .too-long .ensures ∙
-      ap (λ (q : List ℕ). isTooLong (s .args .frame .top) (s .args .frame .bottom) (s .args .slope) (n s) q (s .args .sensitivity .now) (t s)) (read₁ .resistance-is) ∙
-      ap (λ (q : List ℕ). isTooLong (s .args .frame .top) (s .args .frame .bottom) (s .args .slope) (n s) (resistances r₁ (read₁ .is)) q (t s)) (read₁ .sensitivity-is) ∙
-      ap (λ (g : ℕ). isTooLong (s .args .frame .top) (s .args .frame .bottom) g (n s) (resistances r₁ (read₁ .is)) (sensitivity r₁ (read₁ .is)) (t s)) (read₁ .slope-is) ∙
+      ap (λ (q : List ℕ). isTooLong (s .args .frame .top) (s .args .frame .bottom) (s .args .steepness) (n s) q (s .args .sensitivity .now) (t s)) (read₁ .resistance-is) ∙
+      ap (λ (q : List ℕ). isTooLong (s .args .frame .top) (s .args .frame .bottom) (s .args .steepness) (n s) (resistances r₁ (read₁ .is)) q (t s)) (read₁ .sensitivity-is) ∙
+      ap (λ (g : ℕ). isTooLong (s .args .frame .top) (s .args .frame .bottom) g (n s) (resistances r₁ (read₁ .is)) (sensitivity r₁ (read₁ .is)) (t s)) (read₁ .steepness-is) ∙
       too-long-is r₁ (read₁ .is) (t s)
 
 returns : tie.Need-returns

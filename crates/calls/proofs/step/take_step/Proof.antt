@@ -33,8 +33,8 @@ returns c =
 standing : (c : tie.Else1) → isLayer (c .before .before .args .r) ≡ true
 standing c = sym (c .before .is-layer .ensures) ∙ not-false _ (c .if1 .left)
 
-holds-requires : tie.Need-holds-requires
-holds-requires c κs = search needs
+within-requires : tie.Need-within-requires
+within-requires c κs = search needs
 
 refused-requires-2 : tie.Need-refused-requires-2
 refused-requires-2 c κs = search needs
@@ -46,7 +46,7 @@ returns-2 c =
     in-numbers (s .args .r) (Step (s .args .t))
     (c .refused2 .ensures ∙
     sym (refused-on-layer (s .args .r) (Step (s .args .t)) StepOutside (standing e)
-    (step-length-outside _ _ (s .args .t) (sym (c .before .before .holds .ensures) ∙ not-true _ (c .before .if2 .taken)))))
+    (step-length-outside _ _ (s .args .t) (sym (c .before .before .within .ensures) ∙ not-true _ (c .before .if2 .taken)))))
 
 -- the step keeps its limits
 module _ (c : tie.After-struct-known) where
@@ -60,7 +60,7 @@ module _ (c : tie.After-struct-known) where
   clock = s .args .r .layer .progress .clock .0
 
   in-limits : within stepLimits (s .args .t) ≡ true
-  in-limits = sym (c .before .before .before .holds .ensures) ∙ not-false _ (c .before .before .if2 .left)
+  in-limits = sym (c .before .before .before .within .ensures) ∙ not-false _ (c .before .before .if2 .left)
 
 add-new : tie.Need-add-new
 add-new c =
@@ -108,7 +108,7 @@ take-step-spec =
     is-layer-requires
     refused-requires
     returns
-    holds-requires
+    within-requires
     refused-requires-2
     returns-2
     add-new

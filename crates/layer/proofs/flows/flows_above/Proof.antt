@@ -36,20 +36,20 @@ module _ (l : tie.At-loop Inv-loop μ-loop) where
   abbrev r : ℕ → ℕ
   r i = getD (s .args .resistance .now) i 0
 
-  abbrev readable : Readable (s .args .n) (s .args .excess .now) (s .args .resistance .now)
+  abbrev readable : Readable (s .args .elements) (s .args .excess .now) (s .args .resistance .now)
   readable = s .pre .1 .1 .1 .0
 
-  p-fits : (i : ℕ) → i < s .args .n → SFits w64 (p i)
+  p-fits : (i : ℕ) → i < s .args .elements → SFits w64 (p i)
   p-fits i h = within-fits tt (readable .excess-within i h)
 
-  difference : j + 1 < s .args .n → Within (p j -ℤ p (j + 1)) mostDifference
+  difference : j + 1 < s .args .elements → Within (p j -ℤ p (j + 1)) mostDifference
   difference h =
       within-le (within-sub (readable .excess-within j (omega arith)) (readable .excess-within (j + 1) h)) (lit≤ tt)
 
-  difference-fits : j + 1 < s .args .n → SFits w64 (p j -ℤ p (j + 1))
+  difference-fits : j + 1 < s .args .elements → SFits w64 (p j -ℤ p (j + 1))
   difference-fits h = within-fits tt (difference h)
 
-  sum-within : j + 1 < s .args .n → (0 < r j + r (j + 1)) × (r j + r (j + 1) ≤ mostFaceResistance)
+  sum-within : j + 1 < s .args .elements → (0 < r j + r (j + 1)) × (r j + r (j + 1) ≤ mostFaceResistance)
   sum-within h =
       omega (
         arith,
@@ -59,9 +59,9 @@ module _ (l : tie.At-loop Inv-loop μ-loop) where
       )
 
   -- a flow stored at its place
-  stored : (z : ℤ) → SFits w64 z → z ≡ flowAbove (s .args .top) (s .args .t) (s .args .n) (s .args .excess .now) (s .args .resistance .now) j →
+  stored : (z : ℤ) → SFits w64 z → z ≡ flowAbove (s .args .top) (s .args .t) (s .args .elements) (s .args .excess .now) (s .args .resistance .now) j →
       set (l .loop .above) j (toZ w64 (ofZ w64 z)) ≡
-      filled (s .args .above .now) (j + 1) (flowAbove (s .args .top) (s .args .t) (s .args .n) (s .args .excess .now) (s .args .resistance .now))
+      filled (s .args .above .now) (j + 1) (flowAbove (s .args .top) (s .args .t) (s .args .elements) (s .args .excess .now) (s .args .resistance .now))
   stored z f e = rw (readBack f) (filled-store _ _ j _ z (omega (arith, s .pre .1 .1 .1 .1)) (l .loop .inv .1) e)
 
 loop-holds : tie.Need-loop-holds Inv-loop μ-loop
@@ -167,7 +167,7 @@ element-set-from-above-2 c = omega arith
 returns : tie.Need-returns Inv-loop μ-loop
 returns c =
     let l = c .before .before .before .before in
-    let e : j l + 1 ≡ s l .args .n = omega arith in
+    let e : j l + 1 ≡ s l .args .elements = omega arith in
     let f = simp (readBack (p-fits l (j l) (omega arith))) at (c .outward .ensures) in
     rw e at (stored l (c .outward .result) (record { sfits = c .outward .ok }) (f ∙ outward-same _ _ _ _ ∙ sym (flow-top _ _ _ _ _ (j l) e)))
 

@@ -15,10 +15,10 @@ use Rattle.layer.proofs.read.read_element.Statement.{statement}
 use Rattle.layer.proofs.read.read_element.Tie as tie
 
 module _ (c : tie.Start) where
-  abbrev soil : Soil (c .args .m) (c .args .void .now) (c .args .stress .now) (c .args .n) (c .args .conductivity-void .now) (c .args .conductivity .now)
+  abbrev soil : Soil (c .args .skeleton .points) (c .args .void .now) (c .args .stress .now) (c .args .conductivity-points) (c .args .conductivity-void .now) (c .args .conductivity .now)
   soil = c .pre .0
 
-  abbrev on : OnSoil (c .args .m) (c .args .void .now) (c .args .stress .now) (c .args .load .0) (c .args .burden) (c .args .solids) (c .args .water)
+  abbrev on : OnSoil (c .args .skeleton .points) (c .args .void .now) (c .args .stress .now) (c .args .load .0) (c .args .burden) (c .args .solids) (c .args .water)
   on = c .pre .1
 
   most : c .args .water ≤ waterLimits .most
@@ -42,7 +42,7 @@ value-of-requires c κs = search needs
 
 -- the values read
 stress-is : (c : tie.After-value-of) → let s = c .before .before .before .before in
-    c .value-of .result ≡ valueOf (effectiveStress (skeletonOf (points (s .args .m) (s .args .void .now) (s .args .stress .now))) (s .args .solids) (s .args .water))
+    c .value-of .result ≡ valueOf (effectiveStress (skeletonOf (points (s .args .skeleton .points) (s .args .void .now) (s .args .stress .now))) (s .args .solids) (s .args .water))
 stress-is c = c .value-of .ensures ∙ ap valueOf (c .before .before .before .effective-stress .ensures .0)
 
 excess-pressure-requires : tie.Need-excess-pressure-requires
@@ -54,7 +54,7 @@ value-of-requires-2 : tie.Need-value-of-requires-2
 value-of-requires-2 c κs = search needs
 
 conductivity-is : (c : tie.After-value-of2) → let s = c .before .before .before .before .before .before in
-    c .value-of2 .result ≡ valueOf (hydraulicConductivity (points (s .args .n) (s .args .conductivity-void .now) (s .args .conductivity .now)) (s .args .solids) (s .args .water))
+    c .value-of2 .result ≡ valueOf (hydraulicConductivity (points (s .args .conductivity-points) (s .args .conductivity-void .now) (s .args .conductivity .now)) (s .args .solids) (s .args .water))
 unfolding hydraulicConductivity
 conductivity-is c =
     let e = c .before .before .before .before .void-ratio .ensures in

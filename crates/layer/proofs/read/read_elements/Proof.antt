@@ -13,13 +13,13 @@ use Rattle.layer.proofs.read.read_elements.Statement.{statement}
 use Rattle.layer.proofs.read.read_elements.Tie as tie
 
 abbrev Inv-loop : tie.InvT-loop
-Inv-loop count load burden solids water m void stress n conductivity-void conductivity stress-segment₀ conductivity-segment₀ excess₀ resistance₀ j₀ stress-segment conductivity-segment excess resistance j =
-    (j ≤ count) × (excess ≡ filled excess₀ j (excessAt (points m void stress) (load .0) burden solids water)) ×
+Inv-loop count load burden solids water skeleton void stress n conductivity-void conductivity stress-segment₀ conductivity-segment₀ excess₀ resistance₀ j₀ stress-segment conductivity-segment excess resistance j =
+    (j ≤ count) × (excess ≡ filled excess₀ j (excessAt (points (skeleton .points) void stress) (load .0) burden solids water)) ×
     (resistance ≡ filled resistance₀ j (resistanceAt (points n conductivity-void conductivity) solids water)) ×
-    Segments j m stress-segment₀ stress-segment × Segments j n conductivity-segment₀ conductivity-segment
+    Segments j (skeleton .points) stress-segment₀ stress-segment × Segments j n conductivity-segment₀ conductivity-segment
 
 abbrev μ-loop : tie.MeasureT-loop
-μ-loop count load burden solids water m void stress n conductivity-void conductivity stress-segment₀ conductivity-segment₀ excess₀ resistance₀ j₀ stress-segment conductivity-segment excess resistance j =
+μ-loop count load burden solids water skeleton void stress n conductivity-void conductivity stress-segment₀ conductivity-segment₀ excess₀ resistance₀ j₀ stress-segment conductivity-segment excess resistance j =
     count - j
 
 loop-holds : tie.Need-loop-holds Inv-loop μ-loop
@@ -57,7 +57,7 @@ element-copy-out-read-element-5 c = omega arith
 
 -- inside the loop
 below : (c : tie.After-read-element-arg5 Inv-loop μ-loop) →
-    let l = c .before .before .before .before .before .before in (l .loop .j < l .before .args .count) × (l .before .args .count ≤ 128)
+    let l = c .before .before .before .before .before .before in (l .loop .j < l .before .args .elements) × (l .before .args .elements ≤ 128)
 below c = (omega arith, c .before .before .before .before .before .before .before .pre .0)
 
 read-element-requires : tie.Need-read-element-requires Inv-loop μ-loop
@@ -113,7 +113,7 @@ loop-again c =
 returns : tie.Need-returns Inv-loop μ-loop
 returns c =
     let inv = c .before .loop .inv in
-    let full : c .before .loop .j ≡ c .before .before .args .count = omega arith in (
+    let full : c .before .loop .j ≡ c .before .before .args .elements = omega arith in (
       filled-done _ _ _ _ _ (inv .1) full,
       (filled-done _ _ _ _ _ (inv .2) full, (rw full at (inv .3), rw full at (inv .4))),
     )

@@ -34,11 +34,11 @@ buoyant-weight-requires c κs = let l = c .before .before in let s = l .before .
 
 -- what is over an element and its own weight make what is over the one below
 own : (c : tie.After-buoyant-weight Inv-loop μ-loop) → let l = c .before .before .before in let s = l .before .before in
-    l .loop .j < s .args .n → l .loop .over ≡ c .buoyant-weight .result + weightFrom (s .args .gravity) (s .args .n) (s .args .solids .now) (l .loop .j + 1)
+    l .loop .j < s .args .elements → l .loop .over ≡ c .buoyant-weight .result + weightFrom (s .args .gravity) (s .args .elements) (s .args .solids .now) (l .loop .j + 1)
 own c h =
     let l = c .before .before .before in
     let s = l .before .before in
-    omega (arith, l .loop .inv .1, c .buoyant-weight .ensures .0, weight-step (s .args .gravity) (s .args .n) (s .args .solids .now) (l .loop .j) h)
+    omega (arith, l .loop .inv .1, c .buoyant-weight .ensures .0, weight-step (s .args .gravity) (s .args .elements) (s .args .solids .now) (l .loop .j) h)
 
 sub-over : tie.Need-sub-over Inv-loop μ-loop
 sub-over c = omega (arith, own c (omega arith))
@@ -63,7 +63,7 @@ loop-again c =
     let l = c .before .before .before in
     let s = l .before .before in
     let o = own c (omega arith) in
-    let b = burden-is (s .args .gravity) (s .args .n) (s .args .solids .now) (l .loop .j) (omega arith) in
+    let b = burden-is (s .args .gravity) (s .args .elements) (s .args .solids .now) (l .loop .j) (omega arith) in
     let e = c .buoyant-weight .ensures .0 in (
       omega arith,
       omega arith,

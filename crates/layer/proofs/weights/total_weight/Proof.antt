@@ -39,14 +39,14 @@ loop-again : tie.Need-loop-again Inv-loop μ-loop
 loop-again c =
     let l = c .before .before .before in
     let s = l .before in
-    let w = weight-step (s .args .gravity) (s .args .n) (s .args .solids .now) (l .loop .j) (omega arith) in
+    let w = weight-step (s .args .gravity) (s .args .elements) (s .args .solids .now) (l .loop .j) (omega arith) in
     let e = c .buoyant-weight .ensures in
     (omega arith, omega (arith, e .1), omega (arith, e .0))
 
 returns : tie.Need-returns Inv-loop μ-loop
 returns c =
     let s = c .before .before in
-    let w = weight-end (s .args .gravity) (s .args .n) (s .args .solids .now) (c .before .loop .j) (omega arith) in
+    let w = weight-end (s .args .gravity) (s .args .elements) (s .args .solids .now) (c .before .loop .j) (omega arith) in
     (omega arith, omega arith)
 
 pub total-weight-spec : {M : Type 1} → statement M

@@ -83,15 +83,15 @@ all-within-requires c κs = search needs
 all-within-requires-2 : tie.Need-all-within-requires-2
 all-within-requires-2 c κs = search needs
 
-holds-requires : tie.Need-holds-requires
-holds-requires c κs = search needs
+within-requires : tie.Need-within-requires
+within-requires c κs = search needs
 
 all-within-requires-3 : tie.Need-all-within-requires-3
 all-within-requires-3 c κs = search needs
 
 -- once all are tested
 module _ (c : tie.After-all-within3) (void stress conductivityVoid conductivity tableTime tableLoad : List ℕ) where
-  abbrev h : tie.After-holds
+  abbrev h : tie.After-within
   h = c .before
 
   abbrev k : tie.After-struct-known
@@ -125,12 +125,12 @@ returns-4 c void stress conductivityVoid conductivity tableTime tableLoad =
     let top = top-told (t a void stress conductivityVoid conductivity tableTime tableLoad) .1 in
     let bottom = bottom-told (b a void stress conductivityVoid conductivity tableTime tableLoad) .1 in
     (λ i. Within (top i) (bottom i)) ∙
-    told a void stress conductivityVoid conductivity tableTime tableLoad (others-by (described a void stress conductivityVoid conductivity tableTime tableLoad) (a .before .before .before .all-within .ensures) (a .before .before .all-within2 .ensures) (a .before .holds .ensures) (a .all-within3 .ensures) (c .if1 .taken))
+    told a void stress conductivityVoid conductivity tableTime tableLoad (others-by (described a void stress conductivityVoid conductivity tableTime tableLoad) (a .before .before .before .all-within .ensures) (a .before .before .all-within2 .ensures) (a .before .within .ensures) (a .all-within3 .ensures) (c .if1 .taken))
 
 returns-5 : tie.Need-returns-5
 returns-5 c void stress conductivityVoid conductivity tableTime tableLoad =
     let a = c .before in
-    told a void stress conductivityVoid conductivity tableTime tableLoad (others-by (described a void stress conductivityVoid conductivity tableTime tableLoad) (a .before .before .before .all-within .ensures) (a .before .before .all-within2 .ensures) (a .before .holds .ensures) (a .all-within3 .ensures) (c .if1 .left))
+    told a void stress conductivityVoid conductivity tableTime tableLoad (others-by (described a void stress conductivityVoid conductivity tableTime tableLoad) (a .before .before .before .all-within .ensures) (a .before .before .all-within2 .ensures) (a .before .within .ensures) (a .all-within3 .ensures) (c .if1 .left))
 
 pub check-fields-spec : {M : Type 1} → statement M
 check-fields-spec =
@@ -150,7 +150,7 @@ check-fields-spec =
     returns-3
     all-within-requires
     all-within-requires-2
-    holds-requires
+    within-requires
     all-within-requires-3
     returns-4
     returns-5)

@@ -1,7 +1,7 @@
 use borrow.Author.Tests.{not-true, not-false}
 use mathlib.Core.Bool.{true}
 use mathlib.Core.Path.{_≡_, sym, _∙_}
-use Rattle.points.specs.Checks.{pointKept, trendKept}
+use Rattle.points.specs.Checks.{pointWithin, follows}
 use Rattle.numbers.specs.Lists.{all}
 use Rattle.rules.specs.Curve.{points, rising, conductivitySound}
 use Rattle.rules.specs.Quantities.{voidLimits, conductivityLimits}
@@ -9,25 +9,25 @@ use borrow.Author.Needs.{needs}
 use Rattle.points.proofs.checks.conductivity_sound.Statement.{statement}
 use Rattle.points.proofs.checks.conductivity_sound.Tie as tie
 
-points-kept-requires : tie.Need-points-kept-requires
-points-kept-requires c κs = search needs
+points-within-requires : tie.Need-points-within-requires
+points-within-requires c κs = search needs
 
 returns : tie.Need-returns
 unfolding conductivitySound
-returns c = rw (sym (c .before .points-kept .ensures) ∙ not-true _ (c .if1 .taken))
+returns c = rw (sym (c .before .points-within .ensures) ∙ not-true _ (c .if1 .taken))
 
-neighbours-kept-requires : tie.Need-neighbours-kept-requires
-neighbours-kept-requires c κs = search needs
+neighbours-follow-requires : tie.Need-neighbours-follow-requires
+neighbours-follow-requires c κs = search needs
 
 -- what the two tests said
-kept : (c : tie.After-neighbours-kept) → let s = c .before .before .before in
-    all (pointKept voidLimits conductivityLimits) (points (s .args .n) (s .args .void .now) (s .args .conductivity .now)) ≡ true
-kept c = sym (c .before .before .points-kept .ensures) ∙ not-false _ (c .before .if1 .left)
+kept : (c : tie.After-neighbours-follow) → let s = c .before .before .before in
+    all (pointWithin voidLimits conductivityLimits) (points (s .args .count) (s .args .void .now) (s .args .conductivity .now)) ≡ true
+kept c = sym (c .before .before .points-within .ensures) ∙ not-false _ (c .before .if1 .left)
 
-rises : (c : tie.After-neighbours-kept) → let s = c .before .before .before in
-    rising (points (s .args .n) (s .args .void .now) (s .args .conductivity .now)) ≡ c .neighbours-kept .result
-unfolding rising trendKept
-rises c = sym (c .neighbours-kept .ensures)
+rises : (c : tie.After-neighbours-follow) → let s = c .before .before .before in
+    rising (points (s .args .count) (s .args .void .now) (s .args .conductivity .now)) ≡ c .neighbours-follow .result
+unfolding rising follows
+rises c = sym (c .neighbours-follow .ensures)
 
 returns-2 : tie.Need-returns-2
 unfolding conductivitySound
@@ -44,9 +44,9 @@ pub conductivity-sound-spec : {M : Type 1} → statement M
 conductivity-sound-spec =
     tie.close
     (tie.spec
-    points-kept-requires
+    points-within-requires
     returns
-    neighbours-kept-requires
+    neighbours-follow-requires
     returns-2
     covers-requires
     returns-3)

@@ -52,7 +52,7 @@ within-requires c κs = search needs
 told : (c : tie.After-within Inv-loop μ-loop) →
     let l = c .before .before .before in
     let a = l .before .before .before .args in
-    isOn (curveAt (points (a .n) (a .void .now) (a .conductivity .now)) (getD (a .first-void .now) (l .loop .i) 0)) ≡ c .within .result
+    isOn (curveAt (points (a .count) (a .void .now) (a .conductivity .now)) (getD (a .first-void .now) (l .loop .i) 0)) ≡ c .within .result
 told c =
     let s = c .before .before .before .before .before .before in
     sym (between-ends _ _ _ (s .pre .0 .0) (s .pre .1 .1) _) ∙ sym (c .within .ensures)
@@ -62,7 +62,7 @@ unfolding covers
 returns c stress =
     let l = c .before .before .before .before in
     let a = l .before .before .before .args in
-    all-fails (a .first-n) (a .first-void .now) stress (on (a .n) (a .void .now) (a .conductivity .now)) (l .loop .i) (l .loop .inv .1 stress) (omega arith) (told (c .before) ∙ not-true _ (c .if1 .taken))
+    all-fails (a .first-count) (a .first-void .now) stress (on (a .count) (a .void .now) (a .conductivity .now)) (l .loop .i) (l .loop .inv .1 stress) (omega arith) (told (c .before) ∙ not-true _ (c .if1 .taken))
 
 add-i : tie.Need-add-i Inv-loop μ-loop
 add-i c = omega arith
@@ -74,14 +74,14 @@ loop-again : tie.Need-loop-again Inv-loop μ-loop
 loop-again c =
     let l = c .before .before .before .before in
     let a = l .before .before .before .args in
-    (omega arith, λ stress. all-goes (a .first-n) (a .first-void .now) stress (on (a .n) (a .void .now) (a .conductivity .now)) (l .loop .i) (l .loop .inv .1 stress) (omega arith) (told (c .before) ∙ not-false _ (c .if1 .left)))
+    (omega arith, λ stress. all-goes (a .first-count) (a .first-void .now) stress (on (a .count) (a .void .now) (a .conductivity .now)) (l .loop .i) (l .loop .inv .1 stress) (omega arith) (told (c .before) ∙ not-false _ (c .if1 .left)))
 
 returns-2 : tie.Need-returns-2 Inv-loop μ-loop
 unfolding covers
 returns-2 c stress =
     let l = c .before in
     let a = l .before .before .before .args in
-    all-ends (a .first-n) (a .first-void .now) stress (on (a .n) (a .void .now) (a .conductivity .now)) (l .loop .i) (l .loop .inv .1 stress) (omega arith)
+    all-ends (a .first-count) (a .first-void .now) stress (on (a .count) (a .void .now) (a .conductivity .now)) (l .loop .i) (l .loop .inv .1 stress) (omega arith)
 
 pub covers-spec : {M : Type 1} → statement M
 covers-spec =

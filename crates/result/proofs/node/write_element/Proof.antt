@@ -18,11 +18,11 @@ use Rattle.result.proofs.node.write_element.Statement.{statement}
 use Rattle.result.proofs.node.write_element.Tie as tie
 
 module _ (s : tie.Start) where
-  abbrev on : OnSoil (s .args .m) (s .args .void .now) (s .args .stress .now) (s .args .load .0) (s .args .burden) (s .args .solids) (s .args .water)
+  abbrev on : OnSoil (s .args .skeleton .points) (s .args .void .now) (s .args .stress .now) (s .args .load .0) (s .args .burden) (s .args .solids) (s .args .water)
   on = s .pre .1 .1 .1 .1
 
   abbrev curve : List Point
-  curve = points (s .args .m) (s .args .void .now) (s .args .stress .now)
+  curve = points (s .args .skeleton .points) (s .args .void .now) (s .args .stress .now)
 
   abbrev level : ℤ
   level = s .args .top-level .0

@@ -16,12 +16,12 @@ use Rattle.result.proofs.node.write_elements.Statement.{statement}
 use Rattle.result.proofs.node.write_elements.Tie as tie
 
 abbrev Inv-loop : tie.InvT-loop
-Inv-loop n load top-level burden solids water m void stress out₀ below₀ j₀ out below j =
-    (j ≤ n) × (out ≡ sets out₀ 56 (elementsBytes (skeletonOf (points m void stress)) (top-level .0) (load .0) 0 (firstPlaces j burden) (firstPlaces j solids) (firstPlaces j water))) ×
+Inv-loop n load top-level burden solids water skeleton void stress out₀ below₀ j₀ out below j =
+    (j ≤ n) × (out ≡ sets out₀ 56 (elementsBytes (skeletonOf (points (skeleton .points) void stress)) (top-level .0) (load .0) 0 (firstPlaces j burden) (firstPlaces j solids) (firstPlaces j water))) ×
     (below ≡ heightOf (firstPlaces j solids) (firstPlaces j water)) × (below ≤ (solidsLimits .most + waterLimits .most) * j)
 
 abbrev μ-loop : tie.MeasureT-loop
-μ-loop n load top-level burden solids water m void stress out₀ below₀ j₀ out below j =
+μ-loop n load top-level burden solids water skeleton void stress out₀ below₀ j₀ out below j =
     n - j
 
 loop-holds : tie.Need-loop-holds Inv-loop μ-loop
@@ -64,7 +64,7 @@ module _ (c : tie.In-loop Inv-loop μ-loop) where
   abbrev j : ℕ
   j = c .before .loop .j
 
-  on : OnSoil (s .args .m) (s .args .void .now) (s .args .stress .now) (s .args .load .0) (getD (s .args .burden .now) j 0) (getD (s .args .solids .now) j 0) (getD (s .args .water .now) j 0)
+  on : OnSoil (s .args .skeleton .points) (s .args .void .now) (s .args .stress .now) (s .args .load .0) (getD (s .args .burden .now) j 0) (getD (s .args .solids .now) j 0) (getD (s .args .water .now) j 0)
   on = s .pre .1 .1 .1 .1 j (omega arith)
 
   heights : (getD (s .args .solids .now) j 0 ≤ solidsLimits .most) × (getD (s .args .water .now) j 0 ≤ waterLimits .most)

@@ -14,7 +14,7 @@ use Rattle.lent.specs.Burdens.{burdensIn}
 use Rattle.lent.specs.Progress.{loaded, later}
 use Rattle.layer.specs.Soil.{excessAt}
 use Rattle.lent.specs.Standing.{site-is, curve, counted, soil}
-use Rattle.motion.specs.Turning.{longestUpTo, turnedBy, waterTurned, flowsTurned, Shows}
+use Rattle.layer_step.specs.Turning.{longestUpTo, turnedBy, waterTurned, flowsTurned, Shows}
 use Rattle.numbers.specs.Arrays.{filled}
 use Rattle.numbers.specs.Signed.{readBack}
 use Rattle.rules.specs.Layer.{Site, State}

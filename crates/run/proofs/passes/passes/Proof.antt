@@ -12,8 +12,8 @@ use mathlib.Core.List.{List}
 use mathlib.Core.Path.{_≡_, refl, sym, ap, _∙_}
 use Rattle.layer.proofs.SegmentsAt.{segments-length}
 use Rattle.lent.specs.Standing.{counted}
-use Rattle.motion.proofs.TurningAt.{as-long}
-use Rattle.motion.specs.Turning.{waterTurned}
+use Rattle.layer_step.proofs.TurningAt.{as-long}
+use Rattle.layer_step.specs.Turning.{waterTurned}
 use Rattle.rules.specs.Calls.{Ending, endedRun}
 use Rattle.rules.specs.Record.{soilOf, layerOf, recordOf, recordSite, withParts, isLayer}
 use Rattle.rules.specs.Run.{longestStep}
@@ -29,13 +29,13 @@ use Rattle.run.proofs.passes.passes.Statement.{statement}
 use Rattle.run.proofs.passes.passes.Tie as tie
 
 abbrev Inv-loop : tie.InvT-loop
-Inv-loop counts frame void stress conductivity-void conductivity solids water₀ table-time table-load burden sensitivity low high slope end budget stress-segment₀ conductivity-segment₀ excess₀ resistance₀ above₀ now₀ steps₀ water stress-segment conductivity-segment excess resistance above now steps =
+Inv-loop counts frame void stress conductivity-void conductivity solids water₀ table-time table-load burden sensitivity low high steepness end budget stress-segment₀ conductivity-segment₀ excess₀ resistance₀ above₀ now₀ steps₀ water stress-segment conductivity-segment excess resistance above now steps =
     let r = recordOf (soilOf counts void stress conductivity-void conductivity) (layerOf frame now₀ solids water₀ table-time table-load) in
     Reached r end budget water now steps × (length excess ≡ 128) × (length resistance ≡ 128) × (length above ≡ 128) ×
     (length stress-segment ≡ 128) × (length conductivity-segment ≡ 128)
 
 abbrev μ-loop : tie.MeasureT-loop
-μ-loop counts frame void stress conductivity-void conductivity solids water₀ table-time table-load burden sensitivity low high slope end budget stress-segment₀ conductivity-segment₀ excess₀ resistance₀ above₀ now₀ steps₀ water stress-segment conductivity-segment excess resistance above now steps = budget - steps
+μ-loop counts frame void stress conductivity-void conductivity solids water₀ table-time table-load burden sensitivity low high steepness end budget stress-segment₀ conductivity-segment₀ excess₀ resistance₀ above₀ now₀ steps₀ water stress-segment conductivity-segment excess resistance above now steps = budget - steps
 
 -- ---- the layer
 

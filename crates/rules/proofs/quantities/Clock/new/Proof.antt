@@ -5,14 +5,14 @@ use Rattle.rules.proofs.Limits.{tested-kept, tested-outside}
 use Rattle.rules.proofs.quantities.Clock.new.Statement.{statement}
 use Rattle.rules.proofs.quantities.Clock.new.Tie as tie
 
-holds-requires : tie.Need-holds-requires
-holds-requires c κs = search needs
+within-requires : tie.Need-within-requires
+within-requires c κs = search needs
 
 returns : tie.Need-returns
-returns c = tested-kept clockLimits _ _ _ (sym (c .before .holds .ensures) ∙ c .if1 .taken)
+returns c = tested-kept clockLimits _ _ _ (sym (c .before .within .ensures) ∙ c .if1 .taken)
 
 returns-2 : tie.Need-returns-2
-returns-2 c = tested-outside clockLimits _ _ _ (sym (c .before .holds .ensures) ∙ c .if1 .left)
+returns-2 c = tested-outside clockLimits _ _ _ (sym (c .before .within .ensures) ∙ c .if1 .left)
 
 pub new-spec : {M : Type 1} → statement M
-new-spec = tie.close (tie.spec holds-requires returns returns-2)
+new-spec = tie.close (tie.spec within-requires returns returns-2)

@@ -12,13 +12,13 @@ use Rattle.rules.proofs.quantities.Pressure.new.Tie as tie
 
 module _ (c : tie.Then1) where
   kept : within stressLimits (c .before .before .args .stress) ≡ true
-  kept = sym (c .before .holds .ensures) ∙ c .if1 .taken
+  kept = sym (c .before .within .ensures) ∙ c .if1 .taken
 
   small : c .before .before .args .stress < 2 ^ 63
   small = omega (arith, within-parts stressLimits (c .before .before .args .stress) (passed kept))
 
-holds-requires : tie.Need-holds-requires
-holds-requires c κs = search needs
+within-requires : tie.Need-within-requires
+within-requires c κs = search needs
 
 cast-t4 : tie.Need-cast-t4
 cast-t4 c = let h = small c in omega signed
@@ -27,7 +27,7 @@ returns : tie.Need-returns
 returns c = rw (readUnsigned (c .before .before .args .stress) (small c)) (tested-kept stressLimits _ _ _ (kept c))
 
 returns-2 : tie.Need-returns-2
-returns-2 c = tested-outside stressLimits _ _ _ (sym (c .before .holds .ensures) ∙ c .if1 .left)
+returns-2 c = tested-outside stressLimits _ _ _ (sym (c .before .within .ensures) ∙ c .if1 .left)
 
 pub new-spec : {M : Type 1} → statement M
-new-spec = tie.close (tie.spec holds-requires cast-t4 returns returns-2)
+new-spec = tie.close (tie.spec within-requires cast-t4 returns returns-2)
