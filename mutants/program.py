@@ -20,9 +20,8 @@ BLOCKS = 100_000
 
 # The test of `./kufandra test` that runs a built program: the words before the program's path.
 TESTS: Dict[str, List[str]] = {
-    "scenarios": ["tests/run_files", "scenarios"],
+    "scenarios": ["tests/run_files"],
     "consolidate": ["tests/run_program"],
-    "vectors": ["tests/run_files", "vectors"],
 }
 
 

@@ -348,7 +348,7 @@ class Judges(unittest.TestCase):
         ):
             with mock.patch.object(program, "fault_of_run", return_value=run):
                 with mock.patch.object(program, "fault_of_test", return_value=test):
-                    found = bench.judged(kit, "vectors", "folder", "incremental", False)
+                    found = bench.judged(kit, "scenarios", "folder", "incremental", False)
             self.assertEqual(answer, found.answer)
             self.assertEqual(f"built {run or test}".strip(), found.said.strip())
 

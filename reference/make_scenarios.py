@@ -8,8 +8,8 @@
 Every answer and every state is the reference's. What is drawn is drawn by the reference's own generator from a fixed
 seed, so the files are the same on every machine.
 
-INPUT   Files of lists, named in the file `args`. Words are 64 bits, little-endian; signed ones in two's complement.
-        file      number of lists, then the lists
+INPUT   Files of blocks, named in the file `args`. Words are 64 bits, little-endian; signed ones in two's complement.
+        file      number of blocks, then the blocks: here lists, in the files of `make_vectors.py` vectors
         list      kind (0 a job, 1 a record), bytes of the body (at most 8,192), number of calls (at most 32); body;
                   calls
         job       the job's bytes
@@ -53,7 +53,10 @@ RUNS = True     # whether runs are among the calls
 SEED = 20_000
 CRATE = os.path.join(os.path.dirname(HERE), "crates", "scenarios")
 
-JOB, RECORD = 0, 1
+SHARED = ("args", "stdout")   # of the lists and, after these, of the vectors (make_vectors.py), whose files are key_*
+FIRST_KEYS = b"key_accepted"  # the first file of vectors
+
+JOB, RECORD, KEY = 0, 1, 2
 CALL_NUMBERS = {"load": 0, "step": 1, "run": 2}
 BODY_BYTES = 8_192
 CALLS = 32      # most calls of a list
@@ -890,11 +893,25 @@ def made_files(least: int, runs: bool) -> Tuple[Dict[str, bytes], Answers]:
     return made, answers
 
 
-def stored_names(crate: str) -> List[str]:
-    """Paths of the files that are stored."""
-    folder = os.path.join(crate, "data")
-    names = [os.path.join("data", name) for name in (sorted(os.listdir(folder)) if os.path.isdir(folder) else [])]
-    return names + [name for name in ("args", "stdout") if os.path.exists(os.path.join(crate, name))]
+def shares(stored: bytes) -> Tuple[bytes, bytes]:
+    """The lists' share of `args` or `stdout` and, from the name of their first file on, the vectors' share."""
+    at = (b"\n" + stored).find(b"\n%s\n" % FIRST_KEYS)
+    return (stored, b"") if at < 0 else (stored[:at], stored[at:])
+
+
+def stored_files(keys: bool) -> Dict[str, bytes]:
+    """The stored files of the lists or of the vectors, with their share of `args` and `stdout`."""
+    folder = os.path.join(CRATE, "data")
+    found = {}
+    for name in sorted(os.listdir(folder)) if os.path.isdir(folder) else []:
+        if name.startswith("key_") == keys:
+            with open(os.path.join(folder, name), "rb") as source:
+                found[os.path.join("data", name)] = source.read()
+    for name in SHARED:
+        if os.path.exists(os.path.join(CRATE, name)):
+            with open(os.path.join(CRATE, name), "rb") as source:
+                found[name] = shares(source.read())[keys]
+    return found
 
 
 def difference(stored: bytes, made: bytes) -> str:
@@ -903,30 +920,28 @@ def difference(stored: bytes, made: bytes) -> str:
     return "byte %d, line %d; %d bytes stored, %d made" % (at, stored[:at].count(b"\n") + 1, len(stored), len(made))
 
 
-def check(made: Dict[str, bytes], crate: str = CRATE) -> int:
-    """Compare the made files with a crate's stored ones; 1 where they differ."""
-    faults = ["%s: should not be there" % name for name in stored_names(crate) if name not in made]
-    for name, data in made.items():
-        path = os.path.join(crate, name)
-        if not os.path.exists(path):
-            faults.append("%s: missing" % name)
-            continue
-        with open(path, "rb") as source:
-            stored = source.read()
-        if stored != data:
-            faults.append("%s: differs from %s" % (name, difference(stored, data)))
+def check(made: Dict[str, bytes], keys: bool = False) -> int:
+    """Compare the made files with the stored ones, of the lists or of the vectors; 1 where they differ."""
+    stored = stored_files(keys)
+    faults = ["%s: should not be there" % name for name in stored if name not in made]
+    faults += ["%s: missing" % name for name in made if name not in stored]
+    faults += ["%s: differs from %s" % (name, difference(stored[name], data)) for name, data in made.items()
+               if name in stored and stored[name] != data]
     for fault in faults:
-        print("crates/%s/%s" % (os.path.basename(crate), fault), file=sys.stderr)
+        print("crates/scenarios/%s" % fault, file=sys.stderr)
     return 1 if faults else 0
 
 
-def write(made: Dict[str, bytes], crate: str = CRATE) -> None:
-    """Store the made files in a crate in place of the old ones."""
-    os.makedirs(os.path.join(crate, "data"), exist_ok=True)
-    for name in stored_names(crate):
-        os.remove(os.path.join(crate, name))
+def write(made: Dict[str, bytes], keys: bool = False) -> None:
+    """Store the made files, of the lists or of the vectors, in place of the old ones."""
+    others = stored_files(not keys)
+    os.makedirs(os.path.join(CRATE, "data"), exist_ok=True)
+    for name in stored_files(keys):
+        os.remove(os.path.join(CRATE, name))
     for name, data in made.items():
-        with open(os.path.join(crate, name), "wb") as target:
+        if name in SHARED:
+            data = others.get(name, b"") + data if keys else data + others.get(name, b"")
+        with open(os.path.join(CRATE, name), "wb") as target:
             target.write(data)
 
 

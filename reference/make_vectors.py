@@ -1,5 +1,5 @@
 #!/usr/bin/env python3
-"""Makes the jobs that the program `vectors` passes to the key, and the bytes that it has to write.
+"""Makes the jobs that the program `scenarios` passes to the key, and the bytes that it has to write.
 
     python3 make_vectors.py            write both anew
     python3 make_vectors.py --check    make both anew and compare; exit status 1 where a stored file differs
@@ -8,12 +8,12 @@
 Every answer is the reference's. What is drawn is drawn by the reference's own generator from a fixed seed, so the
 files are the same on every machine.
 
-INPUT   Files of vectors, named in the file `args`. Words are 64 bits, little-endian.
+INPUT   Files of vectors, key_*, named in the file `args` after those of the lists. Words are 64 bits, little-endian.
         file      number of vectors, then the vectors
-        vector    bytes of the job (at most 8,192), room (bytes of the result buffer, at most 8,192); the job
+        vector    kind (2), bytes of the job (at most 8,192), room (bytes of the result buffer, at most 8,192); the job
 
-OUTPUT  For every vector, file by file, one byte with the number that the key returns, then the whole result buffer
-        as the key leaves it. Each byte of the buffer is 165 before the call. There are no names and no line ends.
+OUTPUT  For each file a line with its name; for each vector one byte with the number that the key returns, then the
+        whole result buffer as the key leaves it. Each byte of the buffer is 165 before the call.
 """
 
 from __future__ import annotations
@@ -35,14 +35,13 @@ import makers  # noqa: E402
 import printing  # noqa: E402
 import rules  # noqa: E402
 from chance import Chance  # noqa: E402
-from make_scenarios import mud, note, resting, specimen, widest, with_side, words  # noqa: E402
+from make_scenarios import KEY, mud, note, resting, specimen, widest, with_side, words  # noqa: E402
 
 SEED = 30_000
 DRAWN = 420         # drawn vectors
 FILLER = 165        # every byte of a result buffer before the call
 MOST_BYTES = 8_192  # of a job, and of a result buffer
 MANY = 20           # at least so many vectors of every refusal number and every stop
-CRATE = os.path.join(os.path.dirname(HERE), "crates", "vectors")
 
 
 class Vector(NamedTuple):
@@ -340,14 +339,19 @@ def expected(pairs: Iterator[Tuple[int, Vector]]) -> List[Vector]:
 
 def all_vectors() -> Dict[str, List[Vector]]:
     """The vectors of every file, in the order of the files."""
-    return {"accepted": list(accepted()), "refused": expected(refused()), "points": expected(long_points()),
-            "causes": expected(several_causes()), "headers": list(header_bytes()), "rooms": list(rooms()),
-            "runs": list(runs()), "drawn": [drawn_vector(index) for index in range(DRAWN)]}
+    return {"key_accepted": list(accepted()), "key_refused": expected(refused()), "key_points": expected(long_points()),
+            "key_causes": expected(several_causes()), "key_headers": list(header_bytes()), "key_rooms": list(rooms()),
+            "key_runs": list(runs()), "key_drawn": [drawn_vector(index) for index in range(DRAWN)]}
+
+
+def vector_bytes(vector: Vector) -> bytes:
+    """The bytes of a vector."""
+    return words([KEY, len(vector.job), vector.room]) + vector.job
 
 
 def file_bytes(vectors: List[Vector]) -> bytes:
     """The bytes of a file of vectors."""
-    return words([len(vectors)]) + b"".join(words([len(job), room]) + job for job, room in vectors)
+    return words([len(vectors)]) + b"".join(map(vector_bytes, vectors))
 
 
 def made_files() -> Tuple[Dict[str, bytes], Counts]:
@@ -355,6 +359,7 @@ def made_files() -> Tuple[Dict[str, bytes], Counts]:
     made, outputs, counts = {}, [], Counts()
     for name, vectors in all_vectors().items():
         made[os.path.join("data", name)] = file_bytes(vectors)
+        outputs.append(name.encode("ascii") + b"\n")
         for vector in vectors:
             worked = Worked(vector)
             counts.add(worked)
@@ -387,8 +392,8 @@ def main() -> int:
         print("too few of: %s" % "; ".join(missing), file=sys.stderr)
         return 1
     if chosen.check:
-        return scenarios.check(made, CRATE)
-    scenarios.write(made, CRATE)
+        return scenarios.check(made, keys=True)
+    scenarios.write(made, keys=True)
     for name, data in made.items():
         print("%10d %s" % (len(data), name))
     return 0

@@ -37,9 +37,7 @@ pub fn read_layer<'a>(
     ensures { λ _. ⌜ now (resistance .exit) ≡ filled (now (resistance .entry)) (frame .elements) (resistanceAt (points (counts .conductivity) (now («conductivity_void» .entry)) (now (conductivity .entry))) (now (solids .entry)) (now (water .entry))) ⌝ }
 {
     let elements = frame.elements;
-    let skeleton = Skeleton {
-        points: counts.compressibility,
-    };
+    let points = counts.compressibility;
     let conductivity_points = counts.conductivity;
     let mut burden = [0u64; 128];
     weights::burdens(elements, frame.gravity, solids, &mut burden);
@@ -51,7 +49,7 @@ pub fn read_layer<'a>(
         &burden,
         solids,
         water,
-        skeleton,
+        Skeleton { points },
         void,
         stress,
         conductivity_points,

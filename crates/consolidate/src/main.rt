@@ -4,7 +4,6 @@ ghost use mathlib.Core.Path.{_≡_};
 ghost use Prim.Native.Nat.{_≤_, _<_};
 ghost use Rattle.numbers.specs.Arrays.{overlaid, zeros};
 ghost use Rattle.rules.specs.Program.{refusedLine, inputMost, programOutput};
-use job::fields;
 use libc::STDIN_FILENO;
 use libc::STDOUT_FILENO;
 
@@ -44,7 +43,7 @@ fn answer(job: &[u8], out: &mut [u8]) -> usize
     if number != 0 {
         return refused_line(number, out);
     }
-    result::result_size(fields::byte(job, 7) as usize)
+    result::result_size(encoding::byte(job, 7) as usize)
 }
 
 fn main() {

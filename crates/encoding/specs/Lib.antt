@@ -1,2 +1,3 @@
--- Laws of runs of stores.
+-- Laws of runs of stores, and of signed numbers.
 pub mod Stores
+pub mod Signed

@@ -1,4 +1,3 @@
--- Laws of a job's fields, of its counts, and of what is read of it.
-pub mod FieldLaws
+-- Laws of a job's counts, and of what is read of it.
 pub mod Counts
 pub mod Reading

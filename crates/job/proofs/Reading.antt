@@ -3,11 +3,12 @@ use Prim.Native.Nat.{ℕ, _+_, _*_}
 use mathlib.Core.List.{List}
 use mathlib.Core.Path.{_≡_, refl, ap, _∙_}
 use Rattle.numbers.specs.Arrays.{filled, zeros}
-use Rattle.rules.specs.Job.{field, firsts, pairLength}
+use Rattle.numbers.specs.Bytes.{column}
+use Rattle.rules.specs.Job.{firsts, pairLength}
 
 -- the first fields of pairs, put in an array of zeros
 pub firsts-read : (size : ℕ) (job : List ℕ) {offset offset′ count count′ : ℕ} {array blank : List ℕ} → blank ≡ zeros size → offset ≡ offset′ →
-    count ≡ count′ → array ≡ filled blank count (λ i. field 8 (offset + pairLength * i) job) → array ≡ firsts size offset′ count′ job
+    count ≡ count′ → array ≡ filled blank count (column pairLength offset job) → array ≡ firsts size offset′ count′ job
 unfolding firsts
 firsts-read size job b o n e = e ∙ rw (b, o, n) refl
 

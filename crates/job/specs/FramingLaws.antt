@@ -12,7 +12,8 @@ use Rattle.job.specs.FirstCause.{first-earlier, first-later}
 use Rattle.job.specs.Framing.{framing}
 use Rattle.job.specs.declared.framing.Framed.{Framed}
 use Rattle.job.specs.declared.framing.Framed.the-variants.{Sound, Refused}
-use Rattle.rules.specs.Job.{described, field, headerSound, headerLength, framingCauses, describedCauses, jobCauses, jobLength, marked}
+use Rattle.numbers.specs.Bytes.{field}
+use Rattle.rules.specs.Job.{described, headerSound, headerLength, framingCauses, describedCauses, jobCauses, jobLength, marked}
 use Rattle.rules.specs.Refusals.{_if_, firstCause}
 use Rattle.rules.specs.declared.answers.Refusal.{Refusal}
 use Rattle.rules.specs.declared.job.Header.{Header}

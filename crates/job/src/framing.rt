@@ -5,10 +5,10 @@ ghost use mathlib.Core.Bool.{true, not, _||_};
 ghost use mathlib.Core.Path.{_≡_};
 ghost use Prim.Native.Nat.{_≤_};
 ghost use Rattle.job.specs.Framing.{framing};
-ghost use Rattle.rules.specs.Job.{field, headerSound, headerLength, jobLength, marked};
-use crate::fields;
-use crate::fields::HEADER_LENGTH;
+ghost use Rattle.numbers.specs.Bytes.{field};
+ghost use Rattle.rules.specs.Job.{headerSound, headerLength, jobLength, marked};
 use crate::header;
+use crate::header::HEADER_LENGTH;
 use rules::answers::Refusal;
 use rules::job::Header;
 
@@ -30,7 +30,7 @@ pub fn other_version(job: &[u8]) -> bool
     requires { ⌜ headerLength ≤ length (now job) ⌝ }
     ensures { λ r. ⌜ r ≡ not (eqb (field 2 3 (now (job .entry))) 1) ⌝ }
 {
-    fields::field(job, 2, 3) != 1
+    encoding::field(job, 2, 3) != 1
 }
 
 // Cause 3.
@@ -38,7 +38,7 @@ pub fn header_outside(job: &[u8], header: Header) -> bool
     requires { ⌜ headerLength ≤ length (now job) ⌝ }
     ensures { λ r. ⌜ r ≡ (not (headerSound header) || not (eqb (field 2 14 (now (job .entry))) 0)) ⌝ }
 {
-    !header::header_sound(header) || fields::field(job, 2, 14) != 0
+    !header::header_sound(header) || encoding::field(job, 2, 14) != 0
 }
 
 // Cause 4.

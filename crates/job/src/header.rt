@@ -5,15 +5,17 @@ ghost use mathlib.Core.Path.{_≡_};
 ghost use Prim.Native.Nat.{_≤_};
 ghost use Rattle.rules.specs.Job.{described, headerSound, headerLength, jobLength, marked};
 ghost use Rattle.rules.specs.Record.{formSound};
-use crate::fields;
-use crate::fields::HEADER_LENGTH;
-use crate::fields::PAIR_LENGTH;
 use rules::job::Header;
 use rules::quantities::CurvePoints;
 use rules::quantities::Elements;
 use rules::quantities::Flag;
 use rules::quantities::Gravity;
 use rules::quantities::TablePoints;
+
+pub const HEADER_LENGTH: usize = 48;
+
+// The length of each pair of 64-bit fields.
+pub const PAIR_LENGTH: usize = 16;
 
 // Whether a job begins with its mark.
 pub fn marked(job: &[u8]) -> bool
@@ -52,18 +54,18 @@ pub fn read_header(job: &[u8]) -> Header
     ensures { λ r. ⌜ r ≡ (described (now (job .entry))) .header ⌝ }
 {
     Header {
-        top: fields::byte(job, 5),
-        bottom: fields::byte(job, 6),
-        elements: fields::byte(job, 7) as usize,
-        compressibility_points: fields::byte(job, 8) as usize,
-        conductivity_points: fields::byte(job, 9) as usize,
-        table_points: fields::byte(job, 10) as usize,
-        start: fields::byte(job, 11),
-        gravity: fields::field(job, 2, 12),
-        top_level: fields::field(job, 8, 16),
-        bottom_level: fields::field(job, 8, 24),
-        end: fields::field(job, 8, 32),
-        budget: fields::field(job, 8, 40),
+        top: encoding::byte(job, 5),
+        bottom: encoding::byte(job, 6),
+        elements: encoding::byte(job, 7) as usize,
+        compressibility_points: encoding::byte(job, 8) as usize,
+        conductivity_points: encoding::byte(job, 9) as usize,
+        table_points: encoding::byte(job, 10) as usize,
+        start: encoding::byte(job, 11),
+        gravity: encoding::field(job, 2, 12),
+        top_level: encoding::field(job, 8, 16),
+        bottom_level: encoding::field(job, 8, 24),
+        end: encoding::field(job, 8, 32),
+        budget: encoding::field(job, 8, 40),
     }
 }
 

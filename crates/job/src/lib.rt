@@ -1,5 +1,4 @@
-// The job's bytes: their fields, the causes 1 to 4, and their pairs.
-pub mod fields;
+// The job's bytes: their header, the causes 1 to 4, and their pairs.
 pub mod framing;
 pub mod header;
 pub mod pairs;

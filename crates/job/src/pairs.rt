@@ -4,9 +4,8 @@ ghost use mathlib.Core.Bool.{true};
 ghost use mathlib.Core.Path.{_≡_};
 ghost use Rattle.job.specs.Pairs.{Blank, Pairs};
 ghost use Rattle.rules.specs.Job.{described, headerSound, jobLength};
-use crate::fields;
-use crate::fields::HEADER_LENGTH;
-use crate::fields::PAIR_LENGTH;
+use crate::header::HEADER_LENGTH;
+use crate::header::PAIR_LENGTH;
 use rules::job::Header;
 
 // Reads the pairs of a job that is refused for none of the causes 1 to 4 and has this header.
@@ -34,22 +33,36 @@ pub fn read_pairs<'a>(
     let compressibility_at = HEADER_LENGTH + PAIR_LENGTH * elements;
     let conductivity_at = compressibility_at + PAIR_LENGTH * compressibility_points;
     let table_at = conductivity_at + PAIR_LENGTH * conductivity_points;
-    fields::read_firsts(job, HEADER_LENGTH, elements, solids);
-    fields::read_firsts(job, HEADER_LENGTH + 8, elements, water);
-    fields::read_firsts(
+    encoding::read_column(job, PAIR_LENGTH, HEADER_LENGTH, elements, solids);
+    encoding::read_column(job, PAIR_LENGTH, HEADER_LENGTH + 8, elements, water);
+    encoding::read_column(
         job,
+        PAIR_LENGTH,
         compressibility_at,
         compressibility_points,
         compressibility_stress,
     );
-    fields::read_firsts(
+    encoding::read_column(
         job,
+        PAIR_LENGTH,
         compressibility_at + 8,
         compressibility_points,
         compressibility_void,
     );
-    fields::read_firsts(job, conductivity_at, conductivity_points, conductivity_void);
-    fields::read_firsts(job, conductivity_at + 8, conductivity_points, conductivity);
-    fields::read_firsts(job, table_at, table_points, table_time);
-    fields::read_firsts(job, table_at + 8, table_points, table_load);
+    encoding::read_column(
+        job,
+        PAIR_LENGTH,
+        conductivity_at,
+        conductivity_points,
+        conductivity_void,
+    );
+    encoding::read_column(
+        job,
+        PAIR_LENGTH,
+        conductivity_at + 8,
+        conductivity_points,
+        conductivity,
+    );
+    encoding::read_column(job, PAIR_LENGTH, table_at, table_points, table_time);
+    encoding::read_column(job, PAIR_LENGTH, table_at + 8, table_points, table_load);
 }

@@ -100,7 +100,7 @@ pub enum Turned {
 
 // Reads the layer under a load, and takes the longest step of at most so many seconds.
 pub fn turn<'a>(
-    elements: usize,
+    count: usize,
     top: Face,
     bottom: Face,
     load: Pressure,
@@ -124,22 +124,22 @@ pub fn turn<'a>(
     above: &mut [i64; 128],
     water: &mut [u64; 128],
 ) -> Turned
-    requires { ⌜ (0 < elements) × (elements ≤ elementLimits .most) ⌝ }
+    requires { ⌜ (0 < count) × (count ≤ elementLimits .most) ⌝ }
     requires { ⌜ HeldWithin top × HeldWithin bottom × (most ≤ stepLimits .most) ⌝ }
     requires { ⌜ Soil (skeleton .points) (now void) (now stress) «conductivity_points» (now «conductivity_void») (now conductivity) ⌝ }
-    requires { ⌜ ((j : ℕ) → j < elements → OnSoil (skeleton .points) (now void) (now stress) (load .0) (getD (now burden) j 0) (getD (now solids) j 0) (getD (now water) j 0)) ⌝ }
-    requires { ⌜ Worked elements (points (skeleton .points) (now void) (now stress)) (now solids) (now sensitivity) (now low) (now high) steepness ⌝ }
+    requires { ⌜ ((j : ℕ) → j < count → OnSoil (skeleton .points) (now void) (now stress) (load .0) (getD (now burden) j 0) (getD (now solids) j 0) (getD (now water) j 0)) ⌝ }
+    requires { ⌜ Worked count (points (skeleton .points) (now void) (now stress)) (now solids) (now sensitivity) (now low) (now high) steepness ⌝ }
     requires { ⌜ (length (now excess) ≡ 128) × (length (now resistance) ≡ 128) × (length (now above) ≡ 128) × (length (now water) ≡ 128) × (length (now «stress_segment») ≡ 128) × (length (now «conductivity_segment») ≡ 128) ⌝ }
-    requires { ⌜ SomeShown elements top bottom (load .0) (now burden) (now solids) (now water) (skeleton .points) (now void) (now stress) «conductivity_points» (now «conductivity_void») (now conductivity) ⌝ }
-    ensures { λ r. ⌜ ((site : Site) (s : State) → Shows site s elements top bottom (load .0) (now (burden .entry)) (now (solids .entry)) (now (water .entry)) (skeleton .points) (now (void .entry)) (now (stress .entry)) «conductivity_points» (now («conductivity_void» .entry)) (now (conductivity .entry)) → r ≡ turnedBy site s (run.turn site s (longestUpTo site s most))) ⌝ }
-    ensures { λ _. ⌜ ((site : Site) (s : State) → Shows site s elements top bottom (load .0) (now (burden .entry)) (now (solids .entry)) (now (water .entry)) (skeleton .points) (now (void .entry)) (now (stress .entry)) «conductivity_points» (now («conductivity_void» .entry)) (now (conductivity .entry)) → now (water .exit) ≡ waterTurned site s (run.turn site s (longestUpTo site s most)) (now (water .entry))) ⌝ }
-    ensures { λ _. ⌜ ((site : Site) (s : State) → Shows site s elements top bottom (load .0) (now (burden .entry)) (now (solids .entry)) (now (water .entry)) (skeleton .points) (now (void .entry)) (now (stress .entry)) «conductivity_points» (now («conductivity_void» .entry)) (now (conductivity .entry)) → now (above .exit) ≡ flowsTurned site s elements (longestUpTo site s most) (now (above .entry))) ⌝ }
-    ensures { λ _. ⌜ (now (excess .exit) ≡ filled (now (excess .entry)) elements (excessAt (points (skeleton .points) (now (void .entry)) (now (stress .entry))) (load .0) (now (burden .entry)) (now (solids .entry)) (now (water .entry)))) × (now (resistance .exit) ≡ filled (now (resistance .entry)) elements (resistanceAt (points «conductivity_points» (now («conductivity_void» .entry)) (now (conductivity .entry))) (now (solids .entry)) (now (water .entry)))) ⌝ }
-    ensures { λ _. ⌜ Segments elements (skeleton .points) (now («stress_segment» .entry)) (now («stress_segment» .exit)) ⌝ }
-    ensures { λ _. ⌜ Segments elements «conductivity_points» (now («conductivity_segment» .entry)) (now («conductivity_segment» .exit)) ⌝ }
+    requires { ⌜ SomeShown count top bottom (load .0) (now burden) (now solids) (now water) (skeleton .points) (now void) (now stress) «conductivity_points» (now «conductivity_void») (now conductivity) ⌝ }
+    ensures { λ r. ⌜ ((site : Site) (s : State) → Shows site s count top bottom (load .0) (now (burden .entry)) (now (solids .entry)) (now (water .entry)) (skeleton .points) (now (void .entry)) (now (stress .entry)) «conductivity_points» (now («conductivity_void» .entry)) (now (conductivity .entry)) → r ≡ turnedBy site s (run.turn site s (longestUpTo site s most))) ⌝ }
+    ensures { λ _. ⌜ ((site : Site) (s : State) → Shows site s count top bottom (load .0) (now (burden .entry)) (now (solids .entry)) (now (water .entry)) (skeleton .points) (now (void .entry)) (now (stress .entry)) «conductivity_points» (now («conductivity_void» .entry)) (now (conductivity .entry)) → now (water .exit) ≡ waterTurned site s (run.turn site s (longestUpTo site s most)) (now (water .entry))) ⌝ }
+    ensures { λ _. ⌜ ((site : Site) (s : State) → Shows site s count top bottom (load .0) (now (burden .entry)) (now (solids .entry)) (now (water .entry)) (skeleton .points) (now (void .entry)) (now (stress .entry)) «conductivity_points» (now («conductivity_void» .entry)) (now (conductivity .entry)) → now (above .exit) ≡ flowsTurned site s count (longestUpTo site s most) (now (above .entry))) ⌝ }
+    ensures { λ _. ⌜ (now (excess .exit) ≡ filled (now (excess .entry)) count (excessAt (points (skeleton .points) (now (void .entry)) (now (stress .entry))) (load .0) (now (burden .entry)) (now (solids .entry)) (now (water .entry)))) × (now (resistance .exit) ≡ filled (now (resistance .entry)) count (resistanceAt (points «conductivity_points» (now («conductivity_void» .entry)) (now (conductivity .entry))) (now (solids .entry)) (now (water .entry)))) ⌝ }
+    ensures { λ _. ⌜ Segments count (skeleton .points) (now («stress_segment» .entry)) (now («stress_segment» .exit)) ⌝ }
+    ensures { λ _. ⌜ Segments count «conductivity_points» (now («conductivity_segment» .entry)) (now («conductivity_segment» .exit)) ⌝ }
 {
     read::read_elements(
-        elements,
+        count,
         load,
         burden,
         solids,
@@ -155,20 +155,12 @@ pub fn turn<'a>(
         excess,
         resistance,
     );
-    let t = step_length::longest(
-        elements,
-        top,
-        bottom,
-        steepness,
-        resistance,
-        sensitivity,
-        most,
-    );
+    let t = step_length::longest(count, top, bottom, steepness, resistance, sensitivity, most);
     if t == 0 {
         return Turned::Stopped(Stop::NoStep);
     }
     match advance(
-        elements,
+        count,
         top,
         bottom,
         t,

@@ -125,9 +125,7 @@ pub fn state_sound(r: Record) -> bool
     let frame = r.layer.frame;
     let progress = r.layer.progress;
     let elements = frame.elements;
-    let skeleton = Skeleton {
-        points: r.soil.counts.compressibility,
-    };
+    let points = r.soil.counts.compressibility;
     let load = progress.load;
     let clock = progress.clock;
     let starting = frame.starting_water;
@@ -137,7 +135,7 @@ pub fn state_sound(r: Record) -> bool
         elements,
         &r.layer.solids,
         &r.layer.water,
-        skeleton,
+        Skeleton { points },
         &r.soil.compressibility_void,
         &r.soil.compressibility_stress,
     ) {

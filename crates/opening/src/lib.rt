@@ -6,7 +6,7 @@ ghost use Rattle.opening.specs.Accepting.{acceptedBurden};
 ghost use Rattle.opening.specs.Lent.{descriptionOf};
 ghost use Rattle.opening.specs.Opened.{openedJob, leftDescription, leftBurden};
 ghost use Rattle.rules.specs.Job.{Description};
-ghost use Rattle.rules.specs.Opening.{opening, openingNumbers, refusedOpening, accepted, acceptedWater};
+ghost use Rattle.rules.specs.Opening.{opening, openingNumbers, refusedOpening, accepted, acceptanceNumber, acceptedNumber, acceptedWater};
 ghost use Rattle.rules.specs.Outcome.{answerNumbers};
 ghost use Rattle.rules.specs.Record.{recordOf};
 ghost use Rattle.rules.specs.declared.answers.Answer.the-variants.{Done};
@@ -60,6 +60,7 @@ pub fn accept<'a>(
     ensures { λ d r. ⌜ r ≡ accepted d ⌝ }
     ensures { λ d _. ⌜ now (water .exit) ≡ acceptedWater d ⌝ }
     ensures { λ d _. ⌜ now (burden .exit) ≡ acceptedBurden d (now (burden .entry)) ⌝ }
+    ensures { λ d r. ⌜ acceptanceNumber r ≡ acceptedNumber d ⌝ }
 {
     if !header::header_sound(header) {
         return Acceptance::Refused(Refusal::HeaderOutside);
@@ -80,9 +81,7 @@ pub fn accept<'a>(
         Checked::Sound(top_level, bottom_level) => {
             let elements = header.elements;
             weights::burdens(elements, header.gravity, solids, burden);
-            let skeleton = Skeleton {
-                points: header.compressibility_points,
-            };
+            let points = header.compressibility_points;
             let load = table_load[0];
             if !starts::start_water(
                 header.start,
@@ -90,7 +89,7 @@ pub fn accept<'a>(
                 load,
                 burden,
                 solids,
-                skeleton,
+                Skeleton { points },
                 void,
                 stress,
                 water,

@@ -61,9 +61,7 @@ pub fn write_lent<'a>(
     ensures { λ r _. ⌜ now (out .exit) ≡ overlaid (resultBytes r (ended .stop) (ended .steps)) (now (out .entry)) ⌝ }
 {
     let elements = frame.elements;
-    let skeleton = Skeleton {
-        points: counts.compressibility,
-    };
+    let points = counts.compressibility;
     let progress = ended.progress;
     let load = progress.load;
     let top_level = frame.top_level;
@@ -79,7 +77,7 @@ pub fn write_lent<'a>(
         burden,
         solids,
         water,
-        skeleton,
+        Skeleton { points },
         void,
         stress,
         out,

@@ -2,11 +2,12 @@
 use Prim.Native.Nat.{ℕ, _+_, _*_}
 use lib.Dec.{ltb, eqb}
 use lib.IntN.{pos}
-use lib.ListN.{length, getD, take, drop}
+use lib.ListN.{length, getD}
 use mathlib.Core.Bool.{Bool, true, false, not, _&&_, _||_}
 use mathlib.Core.List.{List, [], _∷_, _++_}
 use Rattle.numbers.specs.Arrays.{firstPlaces, filled, zeros}
-use Rattle.numbers.specs.Bytes.{number}
+pub use Rattle.numbers.specs.Bytes.{field}
+use Rattle.numbers.specs.Bytes.{column}
 use Rattle.numbers.specs.Lists.{all}
 use Rattle.rules.specs.Quantities.{within, clockLimits, budgetLimits, head}
 use Rattle.rules.specs.Curve.{points, compressibilitySound, conductivitySound}
@@ -22,11 +23,6 @@ use Rattle.rules.specs.declared.quantities.Pressure.{Pressure}
 use Rattle.rules.specs.declared.record.CurveCounts.{CurveCounts}
 use Rattle.rules.specs.declared.record.Frame.{Frame}
 
--- the number in a field: so many bytes from an offset, lowest first
-unfoldable pub field : (size offset : ℕ) → List ℕ → ℕ
-unfolding number
-field size offset job = number (take size (drop offset job))
-
 -- L S C
 unfoldable pub marked : List ℕ → Bool
 marked job = eqb (getD job 0 0) 76 && eqb (getD job 1 0) 83 && eqb (getD job 2 0) 67
@@ -40,8 +36,8 @@ pairLength = 16
 
 -- an array of the first, or of the second, fields of pairs that begin at an offset
 unfoldable pub firsts : (size offset count : ℕ) → List ℕ → List ℕ
-unfolding filled zeros field
-firsts size offset count job = filled (zeros size) count (λ i. field 8 (offset + pairLength * i) job)
+unfolding filled zeros column
+firsts size offset count job = filled (zeros size) count (column pairLength offset job)
 
 unfoldable pub seconds : (size offset count : ℕ) → List ℕ → List ℕ
 unfolding firsts

@@ -10,7 +10,7 @@ use Rattle.rules.specs.Quantities.{head}
 use Rattle.rules.specs.Layer.{State, skeleton, burdens}
 use Rattle.rules.specs.Start.{startWater, openingLoad, openingState}
 use Rattle.rules.specs.Outcome.{Numbers, answerNumbers}
-use Rattle.rules.specs.Refusals.{Trial, _if_, firstCause}
+use Rattle.rules.specs.Refusals.{Trial, _if_, firstCause, refusalNumber}
 use Rattle.rules.specs.Record.{soilOf, layerOf, recordOf, progressOf}
 use Rattle.rules.specs.Job.{Description, described, countsOf, frameOf, jobSite, givenWater, headerSound, describedCauses, jobCauses}
 use Rattle.rules.specs.declared.answers.Acceptance.{Acceptance}
@@ -92,6 +92,16 @@ accepted d =
         | some water ↦ Acceptance.Accepted (frameOf d.header (sum water)) (progressOf (openingState (jobSite d) water))
       ]
     ]
+
+-- an acceptance in the paper's numbers: 0, or the refusal's
+unfoldable pub acceptanceNumber : Acceptance → ℕ
+unfolding refusalNumber
+acceptanceNumber (Acceptance.Accepted frame progress) = 0
+acceptanceNumber (Acceptance.Refused cause) = refusalNumber cause
+
+unfoldable pub acceptedNumber : Description → ℕ
+unfolding accepted acceptanceNumber
+acceptedNumber d = acceptanceNumber (accepted d)
 
 -- the water of its start in its array, or, where there is none, the water as it is given
 unfoldable pub startedWater : Description → List ℕ

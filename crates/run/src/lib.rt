@@ -62,13 +62,11 @@ pub fn run_lent<'a>(
     let mut sensitivity = [0u64; 128];
     let mut low = [0u64; 128];
     let mut high = [0u64; 128];
-    let skeleton = Skeleton {
-        points: counts.compressibility,
-    };
+    let points = counts.compressibility;
     let steepness = layer_step::prepare(
         frame.elements,
         solids,
-        skeleton,
+        Skeleton { points },
         void,
         stress,
         &mut sensitivity,

@@ -78,9 +78,7 @@ pub fn pass<'a>(
     let under = state::loaded(progress, load);
     let next = table::next_time(frame.table_points, table_time, clock, end);
     let most = numbers::lesser(Seconds::MOST, numbers::lesser(end, next) - clock);
-    let skeleton = Skeleton {
-        points: counts.compressibility,
-    };
+    let points = counts.compressibility;
     match layer_step::turn(
         frame.elements,
         top,
@@ -93,7 +91,7 @@ pub fn pass<'a>(
         sensitivity,
         low,
         high,
-        skeleton,
+        Skeleton { points },
         void,
         stress,
         counts.conductivity,

@@ -1,1 +1,2 @@
 -- The proofs of `scenarios`.
+pub mod Fronts

@@ -1,39 +1,22 @@
-// Answers lists of calls from files and prints every answer and state, for comparison with another program's.
+// Answers lists of calls and works jobs from files and writes every answer, state and result, for comparison with another program's.
 mod print;
 
 ghost use lib.ListN.{length as ListN·length};
 ghost use Prim.Native.Nat.{_≤_, _*_};
 ghost use mathlib.Core.Path.{_≡_};
 ghost use Rattle.numbers.specs.Arrays.{filled};
-ghost use Rattle.transcript.specs.Input.{isBody, wordOf};
+ghost use Rattle.numbers.specs.Bytes.{column};
+ghost use Rattle.transcript.specs.Input.{isBody};
 use libc::STDOUT_FILENO;
 use rules::record::Record;
 use transcript::input;
 
-// Replays the calls of a list on its record, one more each time, and prints what the last one answers and leaves.
-fn answer_record(first: Record, calls: &[u64])
-    requires { ⌜ ListN·length (now calls) ≤ 96 ⌝ }
-{
-    print::state(first);
-    let mut words = [0u64; 96];
-    let mut after = first;
-    let mut end: usize = 3;
-    while end <= calls.len() {
-        after = replay::replay_calls(first, &calls[..end], &mut words[..end]);
-        print::answer(
-            calls[end - 3],
-            words[end - 3],
-            words[end - 2],
-            words[end - 1],
-        );
-        print::state(after);
-        end += 3;
-    }
-    print::site(after);
-}
+// The most bytes of a body, and of a result's buffer.
+const MOST: usize = 8_192;
 
-// Replays the calls of a list from its job, which opens to the record, one more each time, and prints the same.
-fn answer_accepted(job: &[u8], first: Record, calls: &[u64])
+// Replays the calls of a list, one more each time, and prints what the last one answers and leaves: from the job, where that is
+// accepted and opens to the record, otherwise on the record.
+fn answer_calls(accepted: bool, job: &[u8], first: Record, calls: &[u64])
     requires { ⌜ ListN·length (now calls) ≤ 96 ⌝ }
 {
     print::state(first);
@@ -41,9 +24,13 @@ fn answer_accepted(job: &[u8], first: Record, calls: &[u64])
     let mut after = first;
     let mut end: usize = 3;
     while end <= calls.len() {
-        let replayed = replay::replay(job, &calls[..end], &mut words[..end]);
-        let last = replayed.after;
-        after = last;
+        if accepted {
+            let replayed = replay::replay(job, &calls[..end], &mut words[..end]);
+            let last = replayed.after;
+            after = last;
+        } else {
+            after = replay::replay_calls(first, &calls[..end], &mut words[..end]);
+        }
         print::answer(
             calls[end - 3],
             words[end - 3],
@@ -66,11 +53,7 @@ fn answer_job(job: &[u8], calls: &[u64])
     let record = opened.after;
     let refusal = answers::answer_number(answer);
     print::opened(refusal);
-    if refusal == 0 {
-        answer_accepted(job, record, calls);
-    } else {
-        answer_record(record, calls);
-    }
+    answer_calls(refusal == 0, job, record, calls);
 }
 
 // Answers a list; false where a body is no record.
@@ -87,7 +70,7 @@ fn answer_list(number: u64, kind: u64, body: &[u8], calls: &[u64]) -> bool
     if input::is_record(body) {
         io::write_all(STDOUT_FILENO, b"\nrecord\n");
         let record = input::record(body);
-        answer_record(record, calls);
+        answer_calls(false, body, record, calls);
         return true;
     }
     false
@@ -96,50 +79,71 @@ fn answer_list(number: u64, kind: u64, body: &[u8], calls: &[u64]) -> bool
 // Reads so many calls through a buffer of bytes, and stores their words at the start of another.
 fn read_calls(fd: i32, count: usize, bytes: &mut [u8], words: &mut [u64])
     requires { ⌜ (24 * count ≤ ListN·length (now bytes)) × (3 * count ≤ ListN·length (now words)) ⌝ }
-    ensures { λ _. ⌜ now (words .exit) ≡ filled (now (words .entry)) (3 * count) (wordOf (now (bytes .exit))) ⌝ }
+    ensures { λ _. ⌜ now (words .exit) ≡ filled (now (words .entry)) (3 * count) (column 8 0 (now (bytes .exit))) ⌝ }
 {
     let size = 24 * count;
     io::read_full(fd, &mut bytes[..size]);
-    input::words(bytes, 3 * count, words);
+    encoding::read_column(bytes, 8, 0, 3 * count, words);
 }
 
-// Reads a list's body into a buffer and its calls, and answers the list.
-fn read_list(fd: i32, number: u64, kind: u64, length: usize, body: &mut [u8], count: usize) -> bool
-    requires { ⌜ (length ≤ ListN·length (now body)) × (count ≤ 32) ⌝ }
-{
-    let got = io::read_full(fd, &mut body[..length]);
+// Reads the calls of a list, and answers it; false where there are too many, or the body is no record.
+fn read_list(fd: i32, number: u64, kind: u64, body: &[u8], count: usize) -> bool {
+    if count > 32 {
+        return false;
+    }
     let mut bytes = [0u8; 768];
     let mut words = [0u64; 96];
     read_calls(fd, count, &mut bytes, &mut words);
     let end = 3 * count;
-    answer_list(number, kind, &body[..got], &words[..end])
+    answer_list(number, kind, body, &words[..end])
 }
 
-// Answers the next list of a file; false where it is not of the right form.
-fn next_list(fd: i32, number: u64) -> bool {
+// Works a job in a buffer of so many bytes, and writes the number and the whole buffer; false where it is too long.
+fn answer_key(job: &[u8], room: usize) -> bool {
+    if room > MOST {
+        return false;
+    }
+    let mut result = [165u8; MOST];
+    let number = key::consolidation_key(job, &mut result[..room]);
+    let answer = [(number % 256) as u8];
+    io::write_all(STDOUT_FILENO, &answer);
+    io::write_all(STDOUT_FILENO, &result[..room]);
+    true
+}
+
+// Answers a block whose body is read; false where it is not of the right form. Its kind: 0 a list on a job, 2 a job for the key, any
+// other a list on a record.
+fn answer_block(fd: i32, number: u64, kind: u64, body: &[u8], count: usize) -> bool {
+    if kind == 2 {
+        answer_key(body, count)
+    } else {
+        read_list(fd, number, kind, body, count)
+    }
+}
+
+// Answers the next block of a file; false where it is not of the right form.
+fn next_block(fd: i32, number: u64) -> bool {
     let mut head = [0u8; 24];
     io::read_full(fd, &mut head);
-    let kind = text::word(&head, 0);
-    let length = text::word(&head, 8) as usize;
-    let count = text::word(&head, 16) as usize;
-    if length > 8_192 {
+    let kind = encoding::field(&head, 8, 0);
+    let length = encoding::field(&head, 8, 8) as usize;
+    let count = encoding::field(&head, 8, 16) as usize;
+    if length > MOST {
         return false;
     }
-    if count > 32 {
-        return false;
-    }
-    let mut body = [0u8; 8192];
-    read_list(fd, number, kind, length, &mut body, count)
+    let mut body = [0u8; MOST];
+    let read = io::read_full(fd, &mut body[..length]);
+    answer_block(fd, number, kind, &body[..read], count)
 }
 
-// Answers every list of a file.
-fn answer_lists(fd: i32) {
+// Answers every block of a file.
+fn answer_blocks(fd: i32) {
     let mut count = [0u8; 8];
     io::read_full(fd, &mut count);
-    let lists = text::word(&count, 0);
+    let blocks = encoding::field(&count, 8, 0);
     let mut number: u64 = 0;
-    while number < lists {
-        if !next_list(fd, number) {
+    while number < blocks {
+        if !next_block(fd, number) {
             return;
         }
         number += 1;
@@ -157,7 +161,7 @@ fn answer_file(i: usize) {
     }
     io::write_all(STDOUT_FILENO, &path[..length]);
     io::write_all(STDOUT_FILENO, b"\n");
-    answer_lists(fd);
+    answer_blocks(fd);
     libc::close(fd);
 }
 

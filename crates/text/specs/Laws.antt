@@ -1,21 +1,20 @@
 -- Laws of text.
 use Prim.Native.Nat.{ℕ, zero, suc, _+_, _-_, _/_, _%_, _^_, _≤_, _<_}
-use native.Mathlib.Nat.{add-assoc, add-suc, suc-add, add-zero, pow-suc}
+use native.Mathlib.Nat.{add-zero, pow-suc}
 use native.Mathlib.Numerals.{add-one, sub-one}
 use native.Mathlib.Omega.{arith}
 use borrow.Author.Tests.{lt-ltb, le-ltb, ltb-true, ltb-false}
 use lib.Dec.{ltb}
 use lib.IntN.{ℤ, pos, negsuc, natAbs}
-use lib.ListN.{length, take, getD, set, length-append}
+use lib.ListN.{length, take, getD, length-append}
 use lib.Seq.{sets, length-sets, take-suc}
 use lib.Signed.{_≤ℤ_, _<ℤ_}
 use mathlib.Core.Bool.{Bool, true, false}
 use mathlib.Core.List.{List, [], _∷_, _++_, append-nil, append-assoc}
 use mathlib.Core.Path.{_≡_, refl, sym, ap, _∙_}
-use mir.Syntax.{w64}
-use mir.Val.{SFits}
+use Rattle.encoding.specs.Stores.{sets-append}
 use Rattle.numbers.specs.Signed.{le-parts, lt-parts}
-use Rattle.text.specs.Text.{digits, decimal, signedDecimal, signedNumber, spaced, row, before, trimmed, Put}
+use Rattle.text.specs.Text.{digits, decimal, signedDecimal, spaced, row, before, trimmed, Put}
 
 -- ---- digits
 
@@ -89,36 +88,13 @@ unfolding signedDecimal
 length-signed (pos n) = omega (arith, length-decimal n)
 length-signed (negsuc n) = omega (arith, length-decimal (suc n))
 
--- the words below 2 ^ 63 are positive numbers, the others negative ones
-pub signedNumber-low : (word : ℕ) → word < 9_223_372_036_854_775_808 → signedNumber word ≡ pos word
-unfolding signedNumber
-signedNumber-low word h = rw (lt-ltb word 9_223_372_036_854_775_808 h, signedNumber)
-
-pub signedNumber-high : (word : ℕ) → 9_223_372_036_854_775_808 ≤ word → signedNumber word ≡ negsuc (18_446_744_073_709_551_615 - word)
-unfolding signedNumber
-signedNumber-high word h = rw (le-ltb word 9_223_372_036_854_775_808 h, signedNumber)
-
--- the number of any word fits an i64
-pub signedNumber-fits : (word : ℕ) → SFits w64 (signedNumber word)
-signedNumber-fits word = go (ltb word 9_223_372_036_854_775_808) refl
-  where
-    go : (b : Bool) → ltb word 9_223_372_036_854_775_808 ≡ b → SFits w64 (signedNumber word)
-    go true e = rw (signedNumber-low word (ltb-true _ _ e)) (record { sfits = ltb-true _ _ e })
-    go false e = rw (signedNumber-high word (ltb-false _ _ e)) (record { sfits = omega (arith, ltb-false word 9_223_372_036_854_775_808 e) })
-
 -- ---- text stored piece by piece
 
 -- two pieces, one after the other
-sets-append : (array : List ℕ) (at : ℕ) (first second : List ℕ) →
-    sets (sets array at first) (at + length first) second ≡ sets array at (first ++ second)
-sets-append array at [] second = rw (add-zero at)
-sets-append array at (b ∷ first) second =
-    rw (add-suc at (length first), ← suc-add at (length first)) (sets-append (set array at b) (suc at) first second)
-
 pub put-put : {first second before between after : List ℕ} {at middle next : ℕ} →
     Put first before at between middle → Put second between middle after next → Put (first ++ second) before at after next
 put-put {first} {second} {before} {at = at} p q = record {
-  stored = q .stored ∙ rw (p .stored, p .passed) (sets-append before at first second);
+  stored = q .stored ∙ rw (p .stored, p .passed) (sym (sets-append before at first second));
   passed = simp length-append (omega (arith, p .passed, q .passed));
 }
 

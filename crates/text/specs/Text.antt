@@ -1,13 +1,12 @@
 -- Numbers as text, and text stored in an array.
-use Prim.Native.Nat.{ℕ, zero, suc, _+_, _-_, _/_, _%_}
+use Prim.Native.Nat.{ℕ, zero, suc, _+_, _/_, _%_}
 use lib.Dec.{ltb}
 use lib.IntN.{ℤ, pos, negsuc}
-use lib.ListN.{length, take, drop}
+use lib.ListN.{length}
 use lib.Seq.{sets}
 use mathlib.Core.Bool.{true, false}
 use mathlib.Core.List.{List, [], _∷_, _++_}
 use mathlib.Core.Path.{_≡_}
-use Rattle.numbers.specs.Bytes.{number}
 
 -- the digits of n, the highest first and at most so many
 unfoldable pub digits : (most n : ℕ) → List ℕ
@@ -56,12 +55,3 @@ trimmed (n ∷ ns) = before n (trimmed ns)
 pub record Put (text before : List ℕ) (at : ℕ) (after : List ℕ) (next : ℕ) : Type 0 where
   pub stored : after ≡ sets before at text
   pub passed : next ≡ at + length text
-
--- the 64-bit word at a place of a file, lowest byte first
-unfoldable pub wordAt : (input : List ℕ) (at : ℕ) → ℕ
-unfolding number
-wordAt input at = number (take 8 (drop at input))
-
--- the signed number that a word stands for, in two's complement
-unfoldable pub signedNumber : (word : ℕ) → ℤ
-signedNumber word = elim (ltb word 9_223_372_036_854_775_808) [ true ↦ pos word | false ↦ negsuc (18_446_744_073_709_551_615 - word) ]

@@ -1,11 +1,11 @@
-// Numbers as text, and the words of a file.
-ghost use lib.IntN.{ℤ, pos, natAbs};
-ghost use lib.ListN.{length, getD, take};
+// Numbers as text.
+ghost use lib.IntN.{pos, natAbs};
+ghost use lib.ListN.{length, take};
 ghost use lib.Signed.{_<ℤ_};
 ghost use mathlib.Core.List.{[], _∷_};
 ghost use mathlib.Core.Path.{_≡_};
 ghost use Prim.Native.Nat.{ℕ, _+_, _*_, _≤_, _<_};
-ghost use Rattle.text.specs.Text.{decimal, signedDecimal, spaced, signedSpaced, row, trimmed, Put, wordAt, signedNumber};
+ghost use Rattle.text.specs.Text.{decimal, signedDecimal, spaced, signedSpaced, row, trimmed, Put};
 
 // Stores a byte, and gives the place after it.
 pub fn put_byte(out: &mut [u8], at: usize, byte: u8) -> usize
@@ -106,39 +106,4 @@ pub fn used(values: &[u64]) -> usize
         n -= 1;
     }
     n
-}
-
-fn wide(byte: u8) -> u64
-    ensures { λ r. ⌜ r ≡ byte ⌝ }
-{
-    byte as u64
-}
-
-// The two bytes at a place, the lower first.
-fn half_word(input: &[u8], at: usize) -> u64
-    requires { ⌜ at + 2 ≤ length (now input) ⌝ }
-    ensures { λ r. ⌜ (r ≡ getD (now (input .entry)) at 0 + 256 * getD (now (input .entry)) (at + 1) 0) × (r < 65_536) ⌝ }
-{
-    wide(input[at]) + 256 * wide(input[at + 1])
-}
-
-// The 64-bit word at a place, lowest byte first.
-pub fn word(input: &[u8], at: usize) -> u64
-    requires { ⌜ at + 8 ≤ length (now input) ⌝ }
-    ensures { λ r. ⌜ r ≡ wordAt (now (input .entry)) at ⌝ }
-{
-    let low = half_word(input, at) + 65_536 * half_word(input, at + 2);
-    let high = half_word(input, at + 4) + 65_536 * half_word(input, at + 6);
-    low + 4_294_967_296 * high
-}
-
-// The signed number that a word stands for.
-pub fn signed(word: u64) -> i64
-    ensures { λ r. ⌜ r ≡ signedNumber word ⌝ }
-{
-    if word < 9_223_372_036_854_775_808 {
-        word as i64
-    } else {
-        -1 - (18_446_744_073_709_551_615 - word) as i64
-    }
 }

@@ -1,4 +1,4 @@
--- Bytes that give a record are as long as their words say, and a signed number of them is read back as it was written.
+-- Bytes that give a record are as long as their fields say.
 use Prim.Native.Nat.{ℕ, _+_, _*_, _≤_}
 use native.Mathlib.Omega.{arith}
 use borrow.Author.Tests.{leb-true, eqb-true}
@@ -6,24 +6,20 @@ use lib.ListN.{length}
 use mathlib.Core.Bool.{Bool, true, false, _&&_}
 use mathlib.Core.List.{List}
 use mathlib.Core.Path.{_≡_, refl}
-use mir.Syntax.{w64}
-use mir.Val.{ofZ, toZ}
-use Rattle.numbers.specs.Signed.{readBack}
-use Rattle.text.specs.Laws.{signedNumber-fits}
-use Rattle.text.specs.Text.{wordAt, signedNumber}
+use Rattle.numbers.specs.Bytes.{field}
 use Rattle.transcript.specs.Input.{isRecord, tableAt, secondCurveAt, firstCurveAt}
 
--- every word is there, and every pair; the arrays can hold the pairs
+-- every field is there, and every pair; the arrays can hold the pairs
 pub record Fits (body : List ℕ) : Type 0 where
-  pub words : 160 ≤ length body
-  pub elements : wordAt body 128 ≤ 128
-  pub first : wordAt body 136 ≤ 64
-  pub second : wordAt body 144 ≤ 64
-  pub table : wordAt body 152 ≤ 64
-  pub first-at : firstCurveAt body ≡ 160 + 16 * wordAt body 128
-  pub second-at : secondCurveAt body ≡ firstCurveAt body + 16 * wordAt body 136
-  pub table-at : tableAt body ≡ secondCurveAt body + 16 * wordAt body 144
-  pub whole : length body ≡ tableAt body + 16 * wordAt body 152
+  pub fields : 160 ≤ length body
+  pub elements : field 8 128 body ≤ 128
+  pub first : field 8 136 body ≤ 64
+  pub second : field 8 144 body ≤ 64
+  pub table : field 8 152 body ≤ 64
+  pub first-at : firstCurveAt body ≡ 160 + 16 * field 8 128 body
+  pub second-at : secondCurveAt body ≡ firstCurveAt body + 16 * field 8 136 body
+  pub table-at : tableAt body ≡ secondCurveAt body + 16 * field 8 144 body
+  pub whole : length body ≡ tableAt body + 16 * field 8 152 body
 
 both : (a b : Bool) → a && b ≡ true → (a ≡ true) × (b ≡ true)
 both true b e = (refl, e)
@@ -36,9 +32,9 @@ fitting body e =
     let (g, table) = both _ _ f in
     let (h, second) = both _ _ g in
     let (i, first) = both _ _ h in
-    let (words, elements) = both _ _ i in
+    let (fields, elements) = both _ _ i in
     record {
-      words = leb-true _ _ words;
+      fields = leb-true _ _ fields;
       elements = leb-true _ _ elements;
       first = leb-true _ _ first;
       second = leb-true _ _ second;
@@ -48,6 +44,3 @@ fitting body e =
       table-at = refl;
       whole = eqb-true _ _ whole;
     }
-
-pub back : (word : ℕ) → toZ w64 (ofZ w64 (signedNumber word)) ≡ signedNumber word
-back word = readBack (signedNumber-fits word)

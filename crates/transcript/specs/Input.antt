@@ -1,10 +1,11 @@
--- Records and words as the bytes of a file give them.
+-- Records as the bytes of a file give them: twenty 64-bit fields, and pairs of them.
 use Prim.Native.Nat.{ℕ, _+_, _*_}
 use lib.Dec.{leb, eqb}
 use lib.ListN.{length}
 use mathlib.Core.Bool.{Bool, true, false, _&&_}
 use mathlib.Core.List.{List}
-use Rattle.numbers.specs.Arrays.{filled, zeros}
+use Rattle.numbers.specs.Bytes.{field, signedNumber}
+use Rattle.rules.specs.Job.{firsts, seconds}
 use Rattle.rules.specs.Quantities.{head, pressure}
 use Rattle.rules.specs.Record.{soilOf, layerOf, recordOf}
 use Rattle.rules.specs.declared.quantities.Face.{Face}
@@ -14,47 +15,31 @@ use Rattle.rules.specs.declared.record.Layer.{Layer}
 use Rattle.rules.specs.declared.record.Progress.{Progress}
 use Rattle.rules.specs.declared.record.Record.{Record}
 use Rattle.rules.specs.declared.record.Soil.{Soil}
-use Rattle.text.specs.Text.{wordAt, signedNumber}
 
--- the face that two words say
+-- the face that two fields say
 unfoldable pub faceIn : (kind held : ℕ) → Face
 unfolding signedNumber
 faceIn kind held = elim (eqb kind 0) [ true ↦ Closed | false ↦ Drained (pressure (signedNumber held)) ]
 
--- word i of bytes
-unfoldable pub wordOf : (bytes : List ℕ) (i : ℕ) → ℕ
-unfolding wordAt
-wordOf bytes i = wordAt bytes (8 * i)
-
--- one number of each pair of words, from a place on
-unfoldable pub pairAt : (body : List ℕ) (at i : ℕ) → ℕ
-unfolding wordAt
-pairAt body at i = wordAt body (at + 16 * i)
-
--- of so many pairs, in an array
-unfoldable pub column : (size : ℕ) (body : List ℕ) (at count : ℕ) → List ℕ
-unfolding filled zeros pairAt
-column size body at count = filled (zeros size) count (pairAt body at)
-
 -- where the pairs of the curves and of the load table begin
 unfoldable pub firstCurveAt : List ℕ → ℕ
-unfolding wordAt
-firstCurveAt body = 160 + 16 * wordAt body 128
+unfolding field
+firstCurveAt body = 160 + 16 * field 8 128 body
 
 unfoldable pub secondCurveAt : List ℕ → ℕ
-unfolding wordAt firstCurveAt
-secondCurveAt body = firstCurveAt body + 16 * wordAt body 136
+unfolding field firstCurveAt
+secondCurveAt body = firstCurveAt body + 16 * field 8 136 body
 
 unfoldable pub tableAt : List ℕ → ℕ
-unfolding wordAt secondCurveAt
-tableAt body = secondCurveAt body + 16 * wordAt body 144
+unfolding field secondCurveAt
+tableAt body = secondCurveAt body + 16 * field 8 144 body
 
--- bytes give a record: its twenty words, and as many pairs as they announce, which the arrays can hold
+-- bytes give a record: its twenty fields, and as many pairs as they announce, which the arrays can hold
 unfoldable pub isRecord : List ℕ → Bool
-unfolding wordAt tableAt
+unfolding field tableAt
 isRecord body =
-    leb 160 (length body) && leb (wordAt body 128) 128 && leb (wordAt body 136) 64 && leb (wordAt body 144) 64 &&
-    leb (wordAt body 152) 64 && eqb (length body) (tableAt body + 16 * wordAt body 152)
+    leb 160 (length body) && leb (field 8 128 body) 128 && leb (field 8 136 body) 64 && leb (field 8 144 body) 64 &&
+    leb (field 8 152 body) 64 && eqb (length body) (tableAt body + 16 * field 8 152 body)
 
 -- a list's body is of its kind: 0 a job, any bytes; any other a record
 unfoldable pub isBody : (kind : ℕ) (body : List ℕ) → Bool
@@ -63,42 +48,42 @@ isBody kind body = elim (eqb kind 0) [ true ↦ true | false ↦ isRecord body ]
 
 -- the soil: a pair of the first curve is a stress and a void ratio, one of the second a void ratio and a conductivity
 unfoldable pub soilIn : List ℕ → Soil
-unfolding wordAt column firstCurveAt secondCurveAt
+unfolding field firsts seconds firstCurveAt secondCurveAt
 soilIn body =
-    soilOf (record { compressibility = wordAt body 8; conductivity = wordAt body 16 })
-    (column 64 body (firstCurveAt body + 8) (wordAt body 136)) (column 64 body (firstCurveAt body) (wordAt body 136))
-    (column 64 body (secondCurveAt body) (wordAt body 144)) (column 64 body (secondCurveAt body + 8) (wordAt body 144))
+    soilOf (record { compressibility = field 8 8 body; conductivity = field 8 16 body })
+    (seconds 64 (firstCurveAt body) (field 8 136 body) body) (firsts 64 (firstCurveAt body) (field 8 136 body) body)
+    (firsts 64 (secondCurveAt body) (field 8 144 body) body) (seconds 64 (secondCurveAt body) (field 8 144 body) body)
 
 -- the numbers of the layer: those that no call changes, and the others
 unfoldable pub frameIn : List ℕ → Frame
-unfolding wordAt signedNumber faceIn
+unfolding field signedNumber faceIn
 frameIn body = record {
-  top = faceIn (wordAt body 40) (wordAt body 48);
-  bottom = faceIn (wordAt body 56) (wordAt body 64);
-  elements = wordAt body 0;
-  «table_points» = wordAt body 24;
-  gravity = wordAt body 32;
-  «top_level» = head (signedNumber (wordAt body 72));
-  «bottom_level» = head (signedNumber (wordAt body 80));
-  «starting_water» = wordAt body 120;
+  top = faceIn (field 8 40 body) (field 8 48 body);
+  bottom = faceIn (field 8 56 body) (field 8 64 body);
+  elements = field 8 0 body;
+  «table_points» = field 8 24 body;
+  gravity = field 8 32 body;
+  «top_level» = head (signedNumber (field 8 72 body));
+  «bottom_level» = head (signedNumber (field 8 80 body));
+  «starting_water» = field 8 120 body;
 }
 
 unfoldable pub progressIn : List ℕ → Progress
-unfolding wordAt signedNumber
+unfolding field signedNumber
 progressIn body = record {
-  load = pressure (signedNumber (wordAt body 88));
-  clock = record { 0 = wordAt body 96 };
-  «top_outflow» = record { 0 = signedNumber (wordAt body 104) };
-  «bottom_outflow» = record { 0 = signedNumber (wordAt body 112) };
+  load = pressure (signedNumber (field 8 88 body));
+  clock = record { 0 = field 8 96 body };
+  «top_outflow» = record { 0 = signedNumber (field 8 104 body) };
+  «bottom_outflow» = record { 0 = signedNumber (field 8 112 body) };
 }
 
 -- the layer
 unfoldable pub layerIn : List ℕ → Layer
-unfolding wordAt column tableAt frameIn progressIn
+unfolding field firsts seconds tableAt frameIn progressIn
 layerIn body =
     layerOf (frameIn body) (progressIn body)
-    (column 128 body 160 (wordAt body 128)) (column 128 body 168 (wordAt body 128))
-    (column 64 body (tableAt body) (wordAt body 152)) (column 64 body (tableAt body + 8) (wordAt body 152))
+    (firsts 128 160 (field 8 128 body) body) (seconds 128 160 (field 8 128 body) body)
+    (firsts 64 (tableAt body) (field 8 152 body) body) (seconds 64 (tableAt body) (field 8 152 body) body)
 
 -- the record
 unfoldable pub recordIn : List ℕ → Record

@@ -46,13 +46,13 @@ module _ (c : tie.After-read-elements) where
 
   abbrev read-excess : List ℤ
   read-excess =
-      excess (s .args .elements) (s .pre .0 .0) (s .args .skeleton .points) (s .args .void .now) (s .args .stress .now) (s .args .conductivity-points) (s .args .conductivity-void .now)
+      excess (s .args .count) (s .pre .0 .0) (s .args .skeleton .points) (s .args .void .now) (s .args .stress .now) (s .args .conductivity-points) (s .args .conductivity-void .now)
       (s .args .conductivity .now) (s .pre .1 .1 .0) (s .args .load .0) (s .args .burden .now) (s .args .solids .now) (s .args .water .now)
       (s .pre .1 .1 .1 .0) (s .args .excess .now) (s .args .resistance .now)
 
   abbrev read-resistance : List ℕ
   read-resistance =
-      resistance (s .args .elements) (s .pre .0 .0) (s .args .skeleton .points) (s .args .void .now) (s .args .stress .now) (s .args .conductivity-points) (s .args .conductivity-void .now)
+      resistance (s .args .count) (s .pre .0 .0) (s .args .skeleton .points) (s .args .void .now) (s .args .stress .now) (s .args .conductivity-points) (s .args .conductivity-void .now)
       (s .args .conductivity .now) (s .pre .1 .1 .0) (s .args .load .0) (s .args .burden .now) (s .args .solids .now) (s .args .water .now)
       (s .pre .1 .1 .1 .0) (s .args .excess .now) (s .args .resistance .now)
 
@@ -62,17 +62,17 @@ module _ (c : tie.After-read-elements) where
   resistance-is : now-resistance ≡ read-resistance
   resistance-is = c .read-elements .ensures .1 .0
 
-  readable-now : Readable (s .args .elements) now-excess now-resistance
+  readable-now : Readable (s .args .count) now-excess now-resistance
   readable-now =
-      readable-as (s .args .elements) excess-is resistance-is
-      (readable (s .args .elements) (s .pre .0 .0) (s .args .skeleton .points) (s .args .void .now) (s .args .stress .now) (s .args .conductivity-points) (s .args .conductivity-void .now)
+      readable-as (s .args .count) excess-is resistance-is
+      (readable (s .args .count) (s .pre .0 .0) (s .args .skeleton .points) (s .args .void .now) (s .args .stress .now) (s .args .conductivity-points) (s .args .conductivity-void .now)
       (s .args .conductivity .now) (s .pre .1 .1 .0) (s .args .load .0) (s .args .burden .now) (s .args .solids .now) (s .args .water .now)
       (s .pre .1 .1 .1 .0) (s .args .excess .now) (s .args .resistance .now))
 
-  limited-now : Limited (s .args .elements) now-resistance (s .args .sensitivity .now)
+  limited-now : Limited (s .args .count) now-resistance (s .args .sensitivity .now)
   limited-now =
-      limited-as (s .args .elements) (s .args .sensitivity .now) resistance-is
-      (limited (s .args .elements) (s .pre .0 .0) (s .args .skeleton .points) (s .args .void .now) (s .args .stress .now) (s .args .conductivity-points) (s .args .conductivity-void .now)
+      limited-as (s .args .count) (s .args .sensitivity .now) resistance-is
+      (limited (s .args .count) (s .pre .0 .0) (s .args .skeleton .points) (s .args .void .now) (s .args .stress .now) (s .args .conductivity-points) (s .args .conductivity-void .now)
       (s .args .conductivity .now) (s .pre .1 .1 .0) (s .args .load .0) (s .args .burden .now) (s .args .solids .now) (s .args .water .now)
       (s .pre .1 .1 .1 .0) (s .args .excess .now) (s .args .resistance .now) (s .args .sensitivity .now) (s .args .low .now) (s .args .high .now)
       (s .args .steepness) (s .pre .1 .1 .1 .1 .0))
@@ -83,7 +83,7 @@ longest-requires c κs =
     let z = s f in (
       z .pre .0,
       (
-        (steepness-range (z .args .elements) (z .pre .0 .0) (z .args .skeleton .points) (z .args .void .now) (z .args .stress .now) (z .args .conductivity-points) (z .args .conductivity-void .now)
+        (steepness-range (z .args .count) (z .pre .0 .0) (z .args .skeleton .points) (z .args .void .now) (z .args .stress .now) (z .args .conductivity-points) (z .args .conductivity-void .now)
             (z .args .conductivity .now) (z .pre .1 .1 .0) (z .args .load .0) (z .args .burden .now) (z .args .solids .now) (z .args .water .now)
             (z .pre .1 .1 .1 .0) (z .args .excess .now) (z .args .resistance .now) (z .args .sensitivity .now) (z .args .low .now) (z .args .high .now)
             (z .args .steepness) (z .pre .1 .1 .1 .1 .0)),
@@ -98,38 +98,38 @@ module _ (c : tie.After-longest) where
   abbrev s′ : tie.Start
   s′ = s f
 
-  longest-now : c .longest .result ≡ longestWithin (s′ .args .top) (s′ .args .bottom) (s′ .args .steepness) (s′ .args .elements) (read-resistance f) (s′ .args .sensitivity .now) (s′ .args .most)
+  longest-now : c .longest .result ≡ longestWithin (s′ .args .top) (s′ .args .bottom) (s′ .args .steepness) (s′ .args .count) (read-resistance f) (s′ .args .sensitivity .now) (s′ .args .most)
   longest-now =
       c .longest .ensures ∙
-      ap (λ (r : List ℕ). longestWithin (s′ .args .top) (s′ .args .bottom) (s′ .args .steepness) (s′ .args .elements) r (s′ .args .sensitivity .now) (s′ .args .most)) (resistance-is f)
+      ap (λ (r : List ℕ). longestWithin (s′ .args .top) (s′ .args .bottom) (s′ .args .steepness) (s′ .args .count) r (s′ .args .sensitivity .now) (s′ .args .most)) (resistance-is f)
 
   -- it is within the limits of a step
   short : c .longest .result ≤ stepLimits .most
   unfolding longestWithin
   short = rw longest-now (le-trans (greatest-most _ (s′ .args .most)) (s′ .pre .1 .0 .2))
 
-  waters : (j : ℕ) → j < s′ .args .elements → (getD (s′ .args .low .now) j 0 ≤ waterLimits .most) × (getD (s′ .args .high .now) j 0 ≤ waterLimits .most) × (getD (s′ .args .water .now) j 0 ≤ waterLimits .most)
+  waters : (j : ℕ) → j < s′ .args .count → (getD (s′ .args .low .now) j 0 ≤ waterLimits .most) × (getD (s′ .args .high .now) j 0 ≤ waterLimits .most) × (getD (s′ .args .water .now) j 0 ≤ waterLimits .most)
   waters j h =
-      let (low-most, high-most) = bounds-most (s′ .args .elements) (s′ .pre .0 .0) (s′ .args .skeleton .points) (s′ .args .void .now) (s′ .args .stress .now) (s′ .args .conductivity-points) (s′ .args .conductivity-void .now)
+      let (low-most, high-most) = bounds-most (s′ .args .count) (s′ .pre .0 .0) (s′ .args .skeleton .points) (s′ .args .void .now) (s′ .args .stress .now) (s′ .args .conductivity-points) (s′ .args .conductivity-void .now)
       (s′ .args .conductivity .now) (s′ .pre .1 .1 .0) (s′ .args .load .0) (s′ .args .burden .now) (s′ .args .solids .now) (s′ .args .water .now)
       (s′ .pre .1 .1 .1 .0) (s′ .args .excess .now) (s′ .args .resistance .now) (s′ .args .sensitivity .now) (s′ .args .low .now) (s′ .args .high .now)
       (s′ .args .steepness) (s′ .pre .1 .1 .1 .1 .0) j h in (
         low-most,
         high-most,
-        waters-most (s′ .args .elements) (s′ .pre .0 .0) (s′ .args .skeleton .points) (s′ .args .void .now) (s′ .args .stress .now) (s′ .args .conductivity-points) (s′ .args .conductivity-void .now)
+        waters-most (s′ .args .count) (s′ .pre .0 .0) (s′ .args .skeleton .points) (s′ .args .void .now) (s′ .args .stress .now) (s′ .args .conductivity-points) (s′ .args .conductivity-void .now)
             (s′ .args .conductivity .now) (s′ .pre .1 .1 .0) (s′ .args .load .0) (s′ .args .burden .now) (s′ .args .solids .now) (s′ .args .water .now)
             (s′ .pre .1 .1 .1 .0) (s′ .args .excess .now) (s′ .args .resistance .now) j h,
       )
 
-  module _ (site : Site) (st : State) (shows : Shows site st (s′ .args .elements) (s′ .args .top) (s′ .args .bottom) (s′ .args .load .0) (s′ .args .burden .now) (s′ .args .solids .now) (s′ .args .water .now) (s′ .args .skeleton .points) (s′ .args .void .now) (s′ .args .stress .now) (s′ .args .conductivity-points) (s′ .args .conductivity-void .now) (s′ .args .conductivity .now)) where
+  module _ (site : Site) (st : State) (shows : Shows site st (s′ .args .count) (s′ .args .top) (s′ .args .bottom) (s′ .args .load .0) (s′ .args .burden .now) (s′ .args .solids .now) (s′ .args .water .now) (s′ .args .skeleton .points) (s′ .args .void .now) (s′ .args .stress .now) (s′ .args .conductivity-points) (s′ .args .conductivity-void .now) (s′ .args .conductivity .now)) where
     abbrev turned : Turn
     turned = turn site st (longestUpTo site st (s′ .args .most))
 
     none : c .longest .result ≡ 0 →
         (Stopped NoStep ≡ turnedBy site st turned) × (s′ .args .water .now ≡ waterTurned site st turned (s′ .args .water .now)) ×
-        (s′ .args .above .now ≡ flowsTurned site st (s′ .args .elements) (longestUpTo site st (s′ .args .most)) (s′ .args .above .now))
+        (s′ .args .above .now ≡ flowsTurned site st (s′ .args .count) (longestUpTo site st (s′ .args .most)) (s′ .args .above .now))
     none e =
-        no-step (s′ .args .elements) (s′ .pre .0 .0) (s′ .args .skeleton .points) (s′ .args .void .now) (s′ .args .stress .now) (s′ .args .conductivity-points) (s′ .args .conductivity-void .now)
+        no-step (s′ .args .count) (s′ .pre .0 .0) (s′ .args .skeleton .points) (s′ .args .void .now) (s′ .args .stress .now) (s′ .args .conductivity-points) (s′ .args .conductivity-void .now)
         (s′ .args .conductivity .now) (s′ .pre .1 .1 .0) (s′ .args .load .0) (s′ .args .burden .now) (s′ .args .solids .now) (s′ .args .water .now)
         (s′ .pre .1 .1 .1 .0) (s′ .args .excess .now) (s′ .args .resistance .now) (s′ .args .sensitivity .now) (s′ .args .low .now) (s′ .args .high .now)
         (s′ .args .steepness) (s′ .pre .1 .1 .1 .1 .0) (s′ .args .top) (s′ .args .bottom) site st shows (s′ .args .most) (s′ .args .above .now)
@@ -168,55 +168,55 @@ module _ (c : tie.After-advance) where
   curve = points (z .args .skeleton .points) (z .args .void .now) (z .args .stress .now)
 
   abbrev flows : List ℤ
-  flows = (flowsIn (z .args .top) (z .args .bottom) t (z .args .elements) (read-excess (f l)) (read-resistance (f l)))
+  flows = (flowsIn (z .args .top) (z .args .bottom) t (z .args .count) (read-excess (f l)) (read-resistance (f l)))
 
   abbrev stays : Bool
-  stays = staysOn curve (z .args .elements) (z .args .solids .now) flows (z .args .water .now)
+  stays = staysOn curve (z .args .count) (z .args .solids .now) flows (z .args .water .now)
 
   gave : c .advance .result ≡ movedBy stays flows
   gave =
       c .advance .ensures .0 curve (z .args .solids .now) (z .pre .1 .1 .1 .1 .0 .bounded) ∙
-      moved-as (z .args .top) (z .args .bottom) t (z .args .elements) (excess-is (f l)) (resistance-is (f l)) curve (z .args .solids .now) (z .args .water .now)
+      moved-as (z .args .top) (z .args .bottom) t (z .args .count) (excess-is (f l)) (resistance-is (f l)) curve (z .args .solids .now) (z .args .water .now)
 
-  water-left : c .advance .last .1 .1 .1 .1 .1 .1 .1 .1 .1 .0 ≡ waterAfter stays flows (z .args .elements) (z .args .water .now)
+  water-left : c .advance .last .1 .1 .1 .1 .1 .1 .1 .1 .1 .0 ≡ waterAfter stays flows (z .args .count) (z .args .water .now)
   water-left =
       c .advance .ensures .1 .0 curve (z .args .solids .now) (z .pre .1 .1 .1 .1 .0 .bounded) ∙
-      water-as (z .args .top) (z .args .bottom) t (z .args .elements) (excess-is (f l)) (resistance-is (f l)) curve (z .args .solids .now) (z .args .water .now)
+      water-as (z .args .top) (z .args .bottom) t (z .args .count) (excess-is (f l)) (resistance-is (f l)) curve (z .args .solids .now) (z .args .water .now)
 
-  above-left : c .advance .last .1 .1 .1 .1 .1 .1 .1 .1 .0 ≡ filled (z .args .above .now) (z .args .elements) (flowAbove (z .args .top) t (z .args .elements) (read-excess (f l)) (read-resistance (f l)))
+  above-left : c .advance .last .1 .1 .1 .1 .1 .1 .1 .1 .0 ≡ filled (z .args .above .now) (z .args .count) (flowAbove (z .args .top) t (z .args .count) (read-excess (f l)) (read-resistance (f l)))
   above-left =
       c .advance .ensures .1 .1 ∙
-      above-as (z .args .top) (z .args .bottom) t (z .args .elements) (excess-is (f l)) (resistance-is (f l)) (z .args .above .now)
+      above-as (z .args .top) (z .args .bottom) t (z .args .count) (excess-is (f l)) (resistance-is (f l)) (z .args .above .now)
 
   positive : 0 < t
   positive = let some = c .before .before .before .before .before .if1 .left in omega (arith, some)
 
-  module _ (site : Site) (st : State) (shows : Shows site st (z .args .elements) (z .args .top) (z .args .bottom) (z .args .load .0) (z .args .burden .now) (z .args .solids .now) (z .args .water .now) (z .args .skeleton .points) (z .args .void .now) (z .args .stress .now) (z .args .conductivity-points) (z .args .conductivity-void .now) (z .args .conductivity .now)) where
+  module _ (site : Site) (st : State) (shows : Shows site st (z .args .count) (z .args .top) (z .args .bottom) (z .args .load .0) (z .args .burden .now) (z .args .solids .now) (z .args .water .now) (z .args .skeleton .points) (z .args .void .now) (z .args .stress .now) (z .args .conductivity-points) (z .args .conductivity-void .now) (z .args .conductivity .now)) where
     off : Leaves ≡ c .advance .result →
         (Stopped OffCurve ≡ turnedBy site st (turn site st (longestUpTo site st (z .args .most)))) ×
-        (waterAfter stays flows (z .args .elements) (z .args .water .now) ≡ waterTurned site st (turn site st (longestUpTo site st (z .args .most))) (z .args .water .now)) ×
-        (filled (z .args .above .now) (z .args .elements) (flowAbove (z .args .top) t (z .args .elements) (read-excess (f l)) (read-resistance (f l))) ≡ flowsTurned site st (z .args .elements) (longestUpTo site st (z .args .most)) (z .args .above .now))
+        (waterAfter stays flows (z .args .count) (z .args .water .now) ≡ waterTurned site st (turn site st (longestUpTo site st (z .args .most))) (z .args .water .now)) ×
+        (filled (z .args .above .now) (z .args .count) (flowAbove (z .args .top) t (z .args .count) (read-excess (f l)) (read-resistance (f l))) ≡ flowsTurned site st (z .args .count) (longestUpTo site st (z .args .most)) (z .args .above .now))
     off e =
         let gone = leaves-off stays flows (e ∙ gave) in
-        let law = off-curve (z .args .elements) (z .pre .0 .0) (z .args .skeleton .points) (z .args .void .now) (z .args .stress .now) (z .args .conductivity-points) (z .args .conductivity-void .now)
+        let law = off-curve (z .args .count) (z .pre .0 .0) (z .args .skeleton .points) (z .args .void .now) (z .args .stress .now) (z .args .conductivity-points) (z .args .conductivity-void .now)
         (z .args .conductivity .now) (z .pre .1 .1 .0) (z .args .load .0) (z .args .burden .now) (z .args .solids .now) (z .args .water .now)
         (z .pre .1 .1 .1 .0) (z .args .excess .now) (z .args .resistance .now) (z .args .sensitivity .now) (z .args .low .now) (z .args .high .now)
         (z .args .steepness) (z .pre .1 .1 .1 .1 .0) (z .args .top) (z .args .bottom) site st shows (z .args .most) (z .args .above .now)
         t positive (sym (longest-now l)) gone in
-        (law .0, sym (keeps flows (z .args .elements) (z .args .water .now) gone) ∙ law .1, law .2)
+        (law .0, sym (keeps flows (z .args .count) (z .args .water .now) gone) ∙ law .1, law .2)
 
     on : (first last : ℤ) → Flows first last ≡ c .advance .result →
         (Stepped t first last ≡ turnedBy site st (turn site st (longestUpTo site st (z .args .most)))) ×
-        (waterAfter stays flows (z .args .elements) (z .args .water .now) ≡ waterTurned site st (turn site st (longestUpTo site st (z .args .most))) (z .args .water .now)) ×
-        (filled (z .args .above .now) (z .args .elements) (flowAbove (z .args .top) t (z .args .elements) (read-excess (f l)) (read-resistance (f l))) ≡ flowsTurned site st (z .args .elements) (longestUpTo site st (z .args .most)) (z .args .above .now))
+        (waterAfter stays flows (z .args .count) (z .args .water .now) ≡ waterTurned site st (turn site st (longestUpTo site st (z .args .most))) (z .args .water .now)) ×
+        (filled (z .args .above .now) (z .args .count) (flowAbove (z .args .top) t (z .args .count) (read-excess (f l)) (read-resistance (f l))) ≡ flowsTurned site st (z .args .count) (longestUpTo site st (z .args .most)) (z .args .above .now))
     on first last e =
         let (there, first-is, last-is) = flows-on stays flows first last (e ∙ gave) in
-        let law = goes-on (z .args .elements) (z .pre .0 .0) (z .args .skeleton .points) (z .args .void .now) (z .args .stress .now) (z .args .conductivity-points) (z .args .conductivity-void .now)
+        let law = goes-on (z .args .count) (z .pre .0 .0) (z .args .skeleton .points) (z .args .void .now) (z .args .stress .now) (z .args .conductivity-points) (z .args .conductivity-void .now)
         (z .args .conductivity .now) (z .pre .1 .1 .0) (z .args .load .0) (z .args .burden .now) (z .args .solids .now) (z .args .water .now)
         (z .pre .1 .1 .1 .0) (z .args .excess .now) (z .args .resistance .now) (z .args .sensitivity .now) (z .args .low .now) (z .args .high .now)
         (z .args .steepness) (z .pre .1 .1 .1 .1 .0) (z .args .top) (z .args .bottom) site st shows (z .args .most) (z .args .above .now)
         t positive (sym (longest-now l)) there first-is last-is in
-        (law .0, sym (moves-on flows (z .args .elements) (z .args .water .now) there) ∙ law .1, law .2)
+        (law .0, sym (moves-on flows (z .args .count) (z .args .water .now) there) ∙ law .1, law .2)
 
 returns-2 : tie.Need-returns-2
 returns-2 c =

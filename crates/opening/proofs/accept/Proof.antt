@@ -15,6 +15,8 @@ use Rattle.opening.specs.Lent.{descriptionOf, progressAt}
 use Rattle.opening.specs.declared.causes.Checked.the-variants.{Sound}
 use Rattle.rules.specs.Job.{Description, describedCauses, frameOf, headerSound}
 use Rattle.rules.specs.Refusals.{firstCause}
+use Rattle.rules.specs.Opening.{accepted, acceptanceNumber, acceptedNumber}
+use Rattle.rules.specs.declared.answers.Acceptance.{Acceptance}
 use Rattle.rules.specs.declared.answers.Acceptance.the-variants.{Accepted, Refused}
 use Rattle.rules.specs.declared.answers.Refusal.the-variants.{HeaderOutside, StartOffCurve}
 use Rattle.opening.proofs.accept.Statement.{statement}
@@ -29,12 +31,17 @@ d s =
 header-sound-requires : tie.Need-header-sound-requires
 header-sound-requires c κs = search needs
 
+-- an answer in the paper's number
+numbered : (of : Description) {answer : Acceptance} → answer ≡ accepted of → acceptanceNumber answer ≡ acceptedNumber of
+unfolding acceptedNumber
+numbered of e = ap acceptanceNumber e
+
 returns : tie.Need-returns
 returns c =
     let k = c .before in
     let a = cause-accepts (d (k .before)) HeaderOutside
     (header-outside (d (k .before)) (sym (k .header-sound .ensures) ∙ not-true (k .header-sound .result) (c .if1 .taken))) in
-    (a .answers, (a .water-left, a .burden-left _))
+    (a .answers, (a .water-left, (a .burden-left _, numbered _ (a .answers))))
 
 kept : (c : tie.Else1) → headerSound (c .before .before .args .header) ≡ true
 kept c = sym (c .before .header-sound .ensures) ∙ not-false (c .before .header-sound .result) (c .if1 .left)
@@ -56,7 +63,7 @@ returns-3 c =
     let s = e .before .before in
     let a = cause-accepts (d s) _
     (header-within (d s) (kept e) ∙ checked-tells (d s) (sym (k .checked .given .1) ∙ f .described-cause .ensures)) in
-    (a .answers, (a .water-left, a .burden-left _))
+    (a .answers, (a .water-left, (a .burden-left _, numbered _ (a .answers))))
 
 -- ---- a description without the causes 3 and 5 to 8
 
@@ -134,7 +141,7 @@ returns-2 : tie.Need-returns-2
 returns-2 c =
     let w = c .before in
     let a = off w (not-true (w .start-water .result) (c .if2 .taken)) in
-    (a .answers, (a .water-left, b₂ w .burdens .ensures ∙ a .burden-left _))
+    (a .answers, (a .water-left, (b₂ w .burdens .ensures ∙ a .burden-left _, numbered _ (a .answers))))
 
 total-water-requires : tie.Need-total-water-requires
 total-water-requires c κs =
@@ -161,7 +168,8 @@ returns-4 c =
     let a = on w (not-false (w .start-water .result) (o .if2 .left)) in
     let frame = f .frame .ensures ∙ ap (frameOf (d₂ w .header)) (t .total-water .ensures .0) in
     let progress = c .opening-progress .ensures in
-    ((λ i. Accepted (frame i) (progress i)) ∙ a .answers, (a .water-left, b₂ w .burdens .ensures ∙ a .burden-left _))
+    let answers = (λ i. Accepted (frame i) (progress i)) ∙ a .answers in
+    (answers, (a .water-left, (b₂ w .burdens .ensures ∙ a .burden-left _, numbered _ answers)))
 
 pub accept-spec : {M : Type 1} → statement M
 accept-spec =

@@ -105,7 +105,7 @@ module _ (c : tie.After-accept) where
 
   left-burden : c .accept .last .1 .1 .1 .1 .1 .1 .1 .1 .1 .0 ≡ leftBurden (job t₃) (s₁ t₃ .args .burden .now)
   left-burden =
-      c .accept .ensures .1 .1 ∙ ap (λ (d : Description). acceptedBurden d (s₁ t₃ .args .burden .now)) lent ∙
+      c .accept .ensures .1 .1 .0 ∙ ap (λ (d : Description). acceptedBurden d (s₁ t₃ .args .burden .now)) lent ∙
       sym (framed-burden (job t₃) (header t₃) (sound t₃) (s₁ t₃ .args .burden .now))
 
 returns-2 : tie.Need-returns-2

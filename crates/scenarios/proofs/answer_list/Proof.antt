@@ -45,8 +45,8 @@ record-requires c κs =
     let test = c .before .before in
     sym (test .before .is-record .ensures) ∙ test .if2 .taken
 
-answer-record-requires : tie.Need-answer-record-requires
-answer-record-requires c κs = search needs
+answer-calls-requires : tie.Need-answer-calls-requires
+answer-calls-requires c κs = search needs
 
 returns-2 : tie.Need-returns-2
 returns-2 c =
@@ -69,6 +69,6 @@ answer-list-spec =
     slice-aggregate-write-all-2
     write-all-requires-2
     record-requires
-    answer-record-requires
+    answer-calls-requires
     returns-2
     returns-3)

@@ -17,11 +17,11 @@ slice-aggregate-read-full c = sym (length-take-le _ _ (omega arith))
 read-full-requires : tie.Need-read-full-requires
 read-full-requires c κs = search needs
 
-mul-words : tie.Need-mul-words
-mul-words c = search needs
+mul-read-column : tie.Need-mul-read-column
+mul-read-column c = search needs
 
-words-requires : tie.Need-words-requires
-words-requires c κs = search needs
+read-column-requires : tie.Need-read-column-requires
+read-column-requires c κs = search needs
 
 same-length : tie.Need-same-length
 same-length c = search needs
@@ -40,8 +40,8 @@ read-calls-spec =
     slice-relend-prefix-read-full
     slice-aggregate-read-full
     read-full-requires
-    mul-words
-    words-requires
+    mul-read-column
+    read-column-requires
     same-length
     same-length-2
     returns)

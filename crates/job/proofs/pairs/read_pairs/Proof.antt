@@ -40,62 +40,62 @@ mul-table-at c = omega (arith, as-read c)
 add-table-at : tie.Need-add-table-at
 add-table-at c = omega (arith, as-read c)
 
-read-firsts-requires : tie.Need-read-firsts-requires
-read-firsts-requires c κs =
+read-column-requires : tie.Need-read-column-requires
+read-column-requires c κs =
     let b = c .before in
     let long : length (s b .args .solids .now) ≡ 128 = ap (λ (l : List ℕ). length l) (s b .pre .1 .1 .solids-blank) ∙ length-zeros 128 in
     (omega (arith, as-read b, long), omega (arith, as-read b))
 
-add-read-firsts : tie.Need-add-read-firsts
-add-read-firsts c = search needs
+add-read-column : tie.Need-add-read-column
+add-read-column c = search needs
 
-read-firsts-requires-2 : tie.Need-read-firsts-requires-2
-read-firsts-requires-2 c κs =
+read-column-requires-2 : tie.Need-read-column-requires-2
+read-column-requires-2 c κs =
     let b = c .before .before .before in
     let long : length (s b .args .water .now) ≡ 128 = ap (λ (l : List ℕ). length l) (s b .pre .1 .1 .water-blank) ∙ length-zeros 128 in
     (omega (arith, as-read b, long), omega (arith, as-read b))
 
-read-firsts-requires-3 : tie.Need-read-firsts-requires-3
-read-firsts-requires-3 c κs =
+read-column-requires-3 : tie.Need-read-column-requires-3
+read-column-requires-3 c κs =
     let b = c .before .before .before .before .before in
     let long : length (s b .args .compressibility-stress .now) ≡ 64 = ap (λ (l : List ℕ). length l) (s b .pre .1 .1 .compressibility-stress-blank) ∙ length-zeros 64 in
     (omega (arith, as-read b, long), omega (arith, as-read b))
 
-add-read-firsts-2 : tie.Need-add-read-firsts-2
-add-read-firsts-2 c = omega (arith, as-read (c .before .before .before .before .before .before))
+add-read-column-2 : tie.Need-add-read-column-2
+add-read-column-2 c = omega (arith, as-read (c .before .before .before .before .before .before))
 
-read-firsts-requires-4 : tie.Need-read-firsts-requires-4
-read-firsts-requires-4 c κs =
+read-column-requires-4 : tie.Need-read-column-requires-4
+read-column-requires-4 c κs =
     let b = c .before .before .before .before .before .before .before in
     let long : length (s b .args .compressibility-void .now) ≡ 64 = ap (λ (l : List ℕ). length l) (s b .pre .1 .1 .compressibility-void-blank) ∙ length-zeros 64 in
     (omega (arith, as-read b, long), omega (arith, as-read b))
 
-read-firsts-requires-5 : tie.Need-read-firsts-requires-5
-read-firsts-requires-5 c κs =
+read-column-requires-5 : tie.Need-read-column-requires-5
+read-column-requires-5 c κs =
     let b = c .before .before .before .before .before .before .before .before .before in
     let long : length (s b .args .conductivity-void .now) ≡ 64 = ap (λ (l : List ℕ). length l) (s b .pre .1 .1 .conductivity-void-blank) ∙ length-zeros 64 in
     (omega (arith, as-read b, long), omega (arith, as-read b))
 
-add-read-firsts-3 : tie.Need-add-read-firsts-3
-add-read-firsts-3 c = omega (arith, as-read (c .before .before .before .before .before .before .before .before .before .before))
+add-read-column-3 : tie.Need-add-read-column-3
+add-read-column-3 c = omega (arith, as-read (c .before .before .before .before .before .before .before .before .before .before))
 
-read-firsts-requires-6 : tie.Need-read-firsts-requires-6
-read-firsts-requires-6 c κs =
+read-column-requires-6 : tie.Need-read-column-requires-6
+read-column-requires-6 c κs =
     let b = c .before .before .before .before .before .before .before .before .before .before .before in
     let long : length (s b .args .conductivity .now) ≡ 64 = ap (λ (l : List ℕ). length l) (s b .pre .1 .1 .conductivity-blank) ∙ length-zeros 64 in
     (omega (arith, as-read b, long), omega (arith, as-read b))
 
-read-firsts-requires-7 : tie.Need-read-firsts-requires-7
-read-firsts-requires-7 c κs =
+read-column-requires-7 : tie.Need-read-column-requires-7
+read-column-requires-7 c κs =
     let b = c .before .before .before .before .before .before .before .before .before .before .before .before .before in
     let long : length (s b .args .table-time .now) ≡ 64 = ap (λ (l : List ℕ). length l) (s b .pre .1 .1 .table-time-blank) ∙ length-zeros 64 in
     (omega (arith, as-read b, long), omega (arith, as-read b))
 
-add-read-firsts-4 : tie.Need-add-read-firsts-4
-add-read-firsts-4 c = omega (arith, as-read (c .before .before .before .before .before .before .before .before .before .before .before .before .before .before))
+add-read-column-4 : tie.Need-add-read-column-4
+add-read-column-4 c = omega (arith, as-read (c .before .before .before .before .before .before .before .before .before .before .before .before .before .before))
 
-read-firsts-requires-8 : tie.Need-read-firsts-requires-8
-read-firsts-requires-8 c κs =
+read-column-requires-8 : tie.Need-read-column-requires-8
+read-column-requires-8 c κs =
     let b = c .before .before .before .before .before .before .before .before .before .before .before .before .before .before .before in
     let long : length (s b .args .table-load .now) ≡ 64 = ap (λ (l : List ℕ). length l) (s b .pre .1 .1 .table-load-blank) ∙ length-zeros 64 in
     (omega (arith, as-read b, long), omega (arith, as-read b))
@@ -112,14 +112,14 @@ returns c =
     let blank = s b .pre .1 .1 in
     let curve-at = ap (λ (x : ℕ). 48 + 16 * x) n in
     record {
-      solids-held = firsts-read 128 _ (blank .solids-blank) refl n (c .before .before .before .before .before .before .before .before .before .before .before .before .before .before .read-firsts .ensures);
-      water-held = firsts-read 128 _ (blank .water-blank) refl n (c .before .before .before .before .before .before .before .before .before .before .before .before .read-firsts2 .ensures);
-      compressibility-stress-held = firsts-read 64 _ (blank .compressibility-stress-blank) curve-at m (c .before .before .before .before .before .before .before .before .before .before .read-firsts3 .ensures);
-      compressibility-void-held = firsts-read 64 _ (blank .compressibility-void-blank) (second-at curve-at) m (c .before .before .before .before .before .before .before .before .read-firsts4 .ensures);
-      conductivity-void-held = firsts-read 64 _ (blank .conductivity-void-blank) (conductivity-at n m) k (c .before .before .before .before .before .before .read-firsts5 .ensures);
-      conductivity-held = firsts-read 64 _ (blank .conductivity-blank) (second-at (conductivity-at n m)) k (c .before .before .before .before .read-firsts6 .ensures);
-      table-time-held = firsts-read 64 _ (blank .table-time-blank) (table-at n m k) times (c .before .before .read-firsts7 .ensures);
-      table-load-held = firsts-read 64 _ (blank .table-load-blank) (second-at (table-at n m k)) times (c .read-firsts8 .ensures);
+      solids-held = firsts-read 128 _ (blank .solids-blank) refl n (c .before .before .before .before .before .before .before .before .before .before .before .before .before .before .read-column .ensures);
+      water-held = firsts-read 128 _ (blank .water-blank) refl n (c .before .before .before .before .before .before .before .before .before .before .before .before .read-column2 .ensures);
+      compressibility-stress-held = firsts-read 64 _ (blank .compressibility-stress-blank) curve-at m (c .before .before .before .before .before .before .before .before .before .before .read-column3 .ensures);
+      compressibility-void-held = firsts-read 64 _ (blank .compressibility-void-blank) (second-at curve-at) m (c .before .before .before .before .before .before .before .before .read-column4 .ensures);
+      conductivity-void-held = firsts-read 64 _ (blank .conductivity-void-blank) (conductivity-at n m) k (c .before .before .before .before .before .before .read-column5 .ensures);
+      conductivity-held = firsts-read 64 _ (blank .conductivity-blank) (second-at (conductivity-at n m)) k (c .before .before .before .before .read-column6 .ensures);
+      table-time-held = firsts-read 64 _ (blank .table-time-blank) (table-at n m k) times (c .before .before .read-column7 .ensures);
+      table-load-held = firsts-read 64 _ (blank .table-load-blank) (second-at (table-at n m k)) times (c .read-column8 .ensures);
     }
 
 pub read-pairs-spec : {M : Type 1} → statement M
@@ -132,16 +132,16 @@ read-pairs-spec =
     add-conductivity-at
     mul-table-at
     add-table-at
-    read-firsts-requires
-    add-read-firsts
-    read-firsts-requires-2
-    read-firsts-requires-3
-    add-read-firsts-2
-    read-firsts-requires-4
-    read-firsts-requires-5
-    add-read-firsts-3
-    read-firsts-requires-6
-    read-firsts-requires-7
-    add-read-firsts-4
-    read-firsts-requires-8
+    read-column-requires
+    add-read-column
+    read-column-requires-2
+    read-column-requires-3
+    add-read-column-2
+    read-column-requires-4
+    read-column-requires-5
+    add-read-column-3
+    read-column-requires-6
+    read-column-requires-7
+    add-read-column-4
+    read-column-requires-8
     returns)

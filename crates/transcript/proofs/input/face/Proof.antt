@@ -13,18 +13,18 @@ returns : tie.Need-returns
 unfolding faceIn
 returns c = simp (eq-eqb (c .before .args .kind) 0 (c .if1 .taken), faceIn)
 
-signed-requires : tie.Need-signed-requires
-signed-requires c κs = search needs
+signed-number-requires : tie.Need-signed-number-requires
+signed-number-requires c κs = search needs
 
 returns-2 : tie.Need-returns-2
 unfolding faceIn
 returns-2 c =
     simp (
-      readBack {z = c .signed .result} (record { sfits = c .signed .ok }),
+      readBack {z = c .signed-number .result} (record { sfits = c .signed-number .ok }),
       ne-eqb (c .before .before .args .kind) 0 (c .before .if1 .left),
       faceIn,
     )
-    (ap (λ (z : ℤ). Drained (pressure z)) (c .signed .ensures))
+    (ap (λ (z : ℤ). Drained (pressure z)) (c .signed-number .ensures))
 
 pub face-spec : {M : Type 1} → statement M
-face-spec = tie.close (tie.spec returns signed-requires returns-2)
+face-spec = tie.close (tie.spec returns signed-number-requires returns-2)

@@ -5,8 +5,8 @@ use Rattle.transcript.proofs.Fitting.{fitting}
 use Rattle.transcript.proofs.input.first_curve_at.Statement.{statement}
 use Rattle.transcript.proofs.input.first_curve_at.Tie as tie
 
-word-requires : tie.Need-word-requires
-word-requires c κs = omega (arith, fitting _ (c .before .pre))
+field-requires : tie.Need-field-requires
+field-requires c κs = omega (arith, fitting _ (c .before .pre))
 
 mul-result : tie.Need-mul-result
 mul-result c = omega (arith, fitting _ (c .before .before .pre))
@@ -19,4 +19,4 @@ unfolding firstCurveAt
 returns c = search needs
 
 pub first-curve-at-spec : {M : Type 1} → statement M
-first-curve-at-spec = tie.close (tie.spec word-requires mul-result add-result returns)
+first-curve-at-spec = tie.close (tie.spec field-requires mul-result add-result returns)

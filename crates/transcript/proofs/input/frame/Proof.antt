@@ -1,50 +1,50 @@
 use borrow.Author.Needs.{needs}
 use Rattle.transcript.specs.Input.{frameIn}
-use Rattle.transcript.proofs.Fitting.{back}
+use Rattle.encoding.specs.Signed.{back}
 use Rattle.transcript.proofs.input.frame.Statement.{statement}
 use Rattle.transcript.proofs.input.frame.Tie as tie
 
-word-requires : tie.Need-word-requires
-word-requires c κs = search needs
+field-requires : tie.Need-field-requires
+field-requires c κs = search needs
 
-word-requires-2 : tie.Need-word-requires-2
-word-requires-2 c κs = search needs
+field-requires-2 : tie.Need-field-requires-2
+field-requires-2 c κs = search needs
 
 face-requires : tie.Need-face-requires
 face-requires c κs = search needs
 
-word-requires-3 : tie.Need-word-requires-3
-word-requires-3 c κs = search needs
+field-requires-3 : tie.Need-field-requires-3
+field-requires-3 c κs = search needs
 
-word-requires-4 : tie.Need-word-requires-4
-word-requires-4 c κs = search needs
+field-requires-4 : tie.Need-field-requires-4
+field-requires-4 c κs = search needs
 
 face-requires-2 : tie.Need-face-requires-2
 face-requires-2 c κs = search needs
 
-word-requires-5 : tie.Need-word-requires-5
-word-requires-5 c κs = search needs
+field-requires-5 : tie.Need-field-requires-5
+field-requires-5 c κs = search needs
 
-word-requires-6 : tie.Need-word-requires-6
-word-requires-6 c κs = search needs
+field-requires-6 : tie.Need-field-requires-6
+field-requires-6 c κs = search needs
 
-word-requires-7 : tie.Need-word-requires-7
-word-requires-7 c κs = search needs
+field-requires-7 : tie.Need-field-requires-7
+field-requires-7 c κs = search needs
 
-word-requires-8 : tie.Need-word-requires-8
-word-requires-8 c κs = search needs
+field-requires-8 : tie.Need-field-requires-8
+field-requires-8 c κs = search needs
 
-signed-requires : tie.Need-signed-requires
-signed-requires c κs = search needs
+signed-number-requires : tie.Need-signed-number-requires
+signed-number-requires c κs = search needs
 
-word-requires-9 : tie.Need-word-requires-9
-word-requires-9 c κs = search needs
+field-requires-9 : tie.Need-field-requires-9
+field-requires-9 c κs = search needs
 
-signed-requires-2 : tie.Need-signed-requires-2
-signed-requires-2 c κs = search needs
+signed-number-requires-2 : tie.Need-signed-number-requires-2
+signed-number-requires-2 c κs = search needs
 
-word-requires-10 : tie.Need-word-requires-10
-word-requires-10 c κs = search needs
+field-requires-10 : tie.Need-field-requires-10
+field-requires-10 c κs = search needs
 
 returns : tie.Need-returns
 unfolding frameIn
@@ -65,18 +65,18 @@ returns c =
     simp (
       top .face .ensures,
       bottom .face2 .ensures,
-      top-level .signed .ensures,
-      bottom-level .signed2 .ensures,
-      top-kind .word .ensures,
-      top-held .word2 .ensures,
-      bottom-kind .word3 .ensures,
-      bottom-held .word4 .ensures,
-      elements .word5 .ensures,
-      points .word6 .ensures,
-      gravity .word7 .ensures,
-      top-word .word8 .ensures,
-      bottom-word .word9 .ensures,
-      c .word10 .ensures,
+      top-level .signed-number .ensures,
+      bottom-level .signed-number2 .ensures,
+      top-kind .field .ensures,
+      top-held .field2 .ensures,
+      bottom-kind .field3 .ensures,
+      bottom-held .field4 .ensures,
+      elements .field5 .ensures,
+      points .field6 .ensures,
+      gravity .field7 .ensures,
+      top-word .field8 .ensures,
+      bottom-word .field9 .ensures,
+      c .field10 .ensures,
       back,
     )
 
@@ -84,18 +84,18 @@ pub frame-spec : {M : Type 1} → statement M
 frame-spec =
     tie.close
     (tie.spec
-    word-requires
-    word-requires-2
+    field-requires
+    field-requires-2
     face-requires
-    word-requires-3
-    word-requires-4
+    field-requires-3
+    field-requires-4
     face-requires-2
-    word-requires-5
-    word-requires-6
-    word-requires-7
-    word-requires-8
-    signed-requires
-    word-requires-9
-    signed-requires-2
-    word-requires-10
+    field-requires-5
+    field-requires-6
+    field-requires-7
+    field-requires-8
+    signed-number-requires
+    field-requires-9
+    signed-number-requires-2
+    field-requires-10
     returns)

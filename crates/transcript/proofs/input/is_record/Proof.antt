@@ -1,7 +1,7 @@
 use borrow.Author.Tests.{le-leb, lt-leb}
 use denote.Ref.{now}
 use lib.ListN.{length}
-use Rattle.text.specs.Text.{wordAt}
+use Rattle.numbers.specs.Bytes.{field}
 use Rattle.transcript.specs.Input.{isRecord, tableAt, secondCurveAt, firstCurveAt}
 use borrow.Author.Needs.{needs}
 use Rattle.transcript.proofs.input.is_record.Statement.{statement}
@@ -11,17 +11,17 @@ returns : tie.Need-returns
 unfolding isRecord
 returns c = simp (lt-leb 160 _ (c .if1 .taken), isRecord)
 
-word-requires : tie.Need-word-requires
-word-requires c κs = search needs
+field-requires : tie.Need-field-requires
+field-requires c κs = search needs
 
-word-requires-2 : tie.Need-word-requires-2
-word-requires-2 c κs = search needs
+field-requires-2 : tie.Need-field-requires-2
+field-requires-2 c κs = search needs
 
-word-requires-3 : tie.Need-word-requires-3
-word-requires-3 c κs = search needs
+field-requires-3 : tie.Need-field-requires-3
+field-requires-3 c κs = search needs
 
-word-requires-4 : tie.Need-word-requires-4
-word-requires-4 c κs = search needs
+field-requires-4 : tie.Need-field-requires-4
+field-requires-4 c κs = search needs
 
 returns-2 : tie.Need-returns-2
 unfolding isRecord
@@ -29,7 +29,7 @@ returns-2 c =
     let body = now (c .before .before .before .before .before .before .before .args .body) in
     simp (
       le-leb 160 (length body) (c .before .before .before .before .before .if1 .left),
-      lt-leb (wordAt body 128) 128 (rw (c .before .before .before .before .word .ensures) at (c .if2 .taken)),
+      lt-leb (field 8 128 body) 128 (rw (c .before .before .before .before .field .ensures) at (c .if2 .taken)),
       isRecord,
     )
 
@@ -39,8 +39,8 @@ returns-3 c =
     let body = now (c .before .before .before .before .before .before .before .before .args .body) in
     simp (
       le-leb 160 (length body) (c .before .before .before .before .before .before .if1 .left),
-      le-leb (wordAt body 128) 128 (rw (c .before .before .before .before .before .word .ensures) at (c .before .if2 .left)),
-      lt-leb (wordAt body 136) 64 (rw (c .before .before .before .before .word2 .ensures) at (c .if3 .taken)),
+      le-leb (field 8 128 body) 128 (rw (c .before .before .before .before .before .field .ensures) at (c .before .if2 .left)),
+      lt-leb (field 8 136 body) 64 (rw (c .before .before .before .before .field2 .ensures) at (c .if3 .taken)),
       isRecord,
     )
 
@@ -50,9 +50,9 @@ returns-4 c =
     let body = now (c .before .before .before .before .before .before .before .before .before .args .body) in
     simp (
       le-leb 160 (length body) (c .before .before .before .before .before .before .before .if1 .left),
-      le-leb (wordAt body 128) 128 (rw (c .before .before .before .before .before .before .word .ensures) at (c .before .before .if2 .left)),
-      le-leb (wordAt body 136) 64 (rw (c .before .before .before .before .before .word2 .ensures) at (c .before .if3 .left)),
-      lt-leb (wordAt body 144) 64 (rw (c .before .before .before .before .word3 .ensures) at (c .if4 .taken)),
+      le-leb (field 8 128 body) 128 (rw (c .before .before .before .before .before .before .field .ensures) at (c .before .before .if2 .left)),
+      le-leb (field 8 136 body) 64 (rw (c .before .before .before .before .before .field2 .ensures) at (c .before .if3 .left)),
+      lt-leb (field 8 144 body) 64 (rw (c .before .before .before .before .field3 .ensures) at (c .if4 .taken)),
       isRecord,
     )
 
@@ -62,10 +62,10 @@ returns-5 c =
     let body = now (c .before .before .before .before .before .before .before .before .before .before .args .body) in
     simp (
       le-leb 160 (length body) (c .before .before .before .before .before .before .before .before .if1 .left),
-      le-leb (wordAt body 128) 128 (rw (c .before .before .before .before .before .before .before .word .ensures) at (c .before .before .before .if2 .left)),
-      le-leb (wordAt body 136) 64 (rw (c .before .before .before .before .before .before .word2 .ensures) at (c .before .before .if3 .left)),
-      le-leb (wordAt body 144) 64 (rw (c .before .before .before .before .before .word3 .ensures) at (c .before .if4 .left)),
-      lt-leb (wordAt body 152) 64 (rw (c .before .before .before .before .word4 .ensures) at (c .if5 .taken)),
+      le-leb (field 8 128 body) 128 (rw (c .before .before .before .before .before .before .before .field .ensures) at (c .before .before .before .if2 .left)),
+      le-leb (field 8 136 body) 64 (rw (c .before .before .before .before .before .before .field2 .ensures) at (c .before .before .if3 .left)),
+      le-leb (field 8 144 body) 64 (rw (c .before .before .before .before .before .field3 .ensures) at (c .before .if4 .left)),
+      lt-leb (field 8 152 body) 64 (rw (c .before .before .before .before .field4 .ensures) at (c .if5 .taken)),
       isRecord,
     )
 
@@ -99,14 +99,14 @@ returns-6 c =
     let body = now (c .before .before .before .before .before .before .before .before .before .before .args .body) in
     simp (
       le-leb 160 (length body) (c .before .before .before .before .before .before .before .before .if1 .left),
-      le-leb (wordAt body 128) 128 (rw (c .before .before .before .before .before .before .before .word .ensures) at (c .before .before .before .if2 .left)),
-      le-leb (wordAt body 136) 64 (rw (c .before .before .before .before .before .before .word2 .ensures) at (c .before .before .if3 .left)),
-      le-leb (wordAt body 144) 64 (rw (c .before .before .before .before .before .word3 .ensures) at (c .before .if4 .left)),
-      le-leb (wordAt body 152) 64 (rw (c .before .before .before .before .word4 .ensures) at (c .if5 .left)),
-      c .before .before .before .before .before .before .before .word .ensures,
-      c .before .before .before .before .before .before .word2 .ensures,
-      c .before .before .before .before .before .word3 .ensures,
-      c .before .before .before .before .word4 .ensures,
+      le-leb (field 8 128 body) 128 (rw (c .before .before .before .before .before .before .before .field .ensures) at (c .before .before .before .if2 .left)),
+      le-leb (field 8 136 body) 64 (rw (c .before .before .before .before .before .before .field2 .ensures) at (c .before .before .if3 .left)),
+      le-leb (field 8 144 body) 64 (rw (c .before .before .before .before .before .field3 .ensures) at (c .before .if4 .left)),
+      le-leb (field 8 152 body) 64 (rw (c .before .before .before .before .field4 .ensures) at (c .if5 .left)),
+      c .before .before .before .before .before .before .before .field .ensures,
+      c .before .before .before .before .before .before .field2 .ensures,
+      c .before .before .before .before .before .field3 .ensures,
+      c .before .before .before .before .field4 .ensures,
       isRecord,
     )
 
@@ -115,10 +115,10 @@ is-record-spec =
     tie.close
     (tie.spec
     returns
-    word-requires
-    word-requires-2
-    word-requires-3
-    word-requires-4
+    field-requires
+    field-requires-2
+    field-requires-3
+    field-requires-4
     returns-2
     returns-3
     returns-4

@@ -8,8 +8,8 @@ use Rattle.transcript.proofs.input.second_curve_at.Tie as tie
 first-curve-at-requires : tie.Need-first-curve-at-requires
 first-curve-at-requires c κs = search needs
 
-word-requires : tie.Need-word-requires
-word-requires c κs = omega (arith, fitting _ (c .before .before .pre))
+field-requires : tie.Need-field-requires
+field-requires c κs = omega (arith, fitting _ (c .before .before .pre))
 
 mul-result : tie.Need-mul-result
 mul-result c = omega (arith, fitting _ (c .before .before .before .pre))
@@ -23,4 +23,4 @@ returns c = search needs
 
 pub second-curve-at-spec : {M : Type 1} → statement M
 second-curve-at-spec =
-    tie.close (tie.spec first-curve-at-requires word-requires mul-result add-result returns)
+    tie.close (tie.spec first-curve-at-requires field-requires mul-result add-result returns)

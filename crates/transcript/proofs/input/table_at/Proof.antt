@@ -8,8 +8,8 @@ use Rattle.transcript.proofs.input.table_at.Tie as tie
 second-curve-at-requires : tie.Need-second-curve-at-requires
 second-curve-at-requires c κs = search needs
 
-word-requires : tie.Need-word-requires
-word-requires c κs = omega (arith, fitting _ (c .before .before .pre))
+field-requires : tie.Need-field-requires
+field-requires c κs = omega (arith, fitting _ (c .before .before .pre))
 
 mul-result : tie.Need-mul-result
 mul-result c = omega (arith, fitting _ (c .before .before .before .pre))
@@ -23,4 +23,4 @@ returns c = search needs
 
 pub table-at-spec : {M : Type 1} → statement M
 table-at-spec =
-    tie.close (tie.spec second-curve-at-requires word-requires mul-result add-result returns)
+    tie.close (tie.spec second-curve-at-requires field-requires mul-result add-result returns)

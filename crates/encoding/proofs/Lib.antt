@@ -1,0 +1,2 @@
+-- The proofs of `encoding`.
+pub mod Reading
