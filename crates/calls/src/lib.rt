@@ -1,4 +1,3 @@
-// Load and step, on any record; reading a layer without moving it.
+// Load and step, on any record.
 pub mod load;
-pub mod reading;
 pub mod step;

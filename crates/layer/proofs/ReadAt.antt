@@ -6,13 +6,13 @@ use mathlib.Core.List.{List}
 use Rattle.laws.specs.Excess as Excess
 use Rattle.laws.specs.Ranges.{conductivity-ranged, conducts}
 use Rattle.laws.specs.VoidRatio.{water-on-curve}
-use Rattle.layer.specs.Soil.{Soil, OnSoil}
+use Rattle.layer.specs.Soil.{SoilSound, OnSoil}
 use Rattle.numbers.specs.Searches.{passed}
 use Rattle.rules.specs.Curve.{points, curveAt, isOn, valueOf}
 use Rattle.rules.specs.Layer.{skeletonOf, voidRatio, effectiveStress, hydraulicConductivity}
 use Rattle.rules.specs.Quantities.{stressLimits, conductivityLimits, waterLimits}
 
-module _ (m : ℕ) (void stress : List ℕ) (n : ℕ) (conductivityVoid conductivity : List ℕ) (soil : Soil m void stress n conductivityVoid conductivity)
+module _ (m : ℕ) (void stress : List ℕ) (n : ℕ) (conductivityVoid conductivity : List ℕ) (soil : SoilSound m void stress n conductivityVoid conductivity)
     (load : ℤ) (B S W : ℕ) (on : OnSoil m void stress load B S W) where
   is-on : T (isOn (curveAt (points m void stress) (voidRatio S W)))
   unfolding effectiveStress

@@ -1,4 +1,5 @@
 -- What the contracts of the layer cite beside the rules.
+pub mod Held
 pub mod Segments
 pub mod Soil
 pub mod Weights

@@ -5,14 +5,13 @@ use mathlib.Core.Bool.{true}
 use mathlib.Core.List.{List}
 use mathlib.Core.Path.{_≡_}
 use Rattle.laws.specs.Amid.{Between}
-use lib.ListN.{getD}
 use Rattle.laws.specs.Most.{mostBurden}
 use Rattle.rules.specs.Quantities.{stressLimits, solidsLimits, curveLimits}
-use Rattle.rules.specs.Curve.{Point, points, isOn, compressibilitySound, conductivitySound}
-use Rattle.rules.specs.Layer.{skeletonOf, effectiveStress, excessPressure, resistance}
+use Rattle.rules.specs.Curve.{points, isOn, compressibilitySound, conductivitySound}
+use Rattle.rules.specs.Layer.{skeletonOf, effectiveStress}
 
 -- both curves as arrays, with a count of points within its limits
-pub record Soil (m : ℕ) (void stress : List ℕ) (n : ℕ) (conductivityVoid conductivity : List ℕ) : Type 0 where
+pub record SoilSound (m : ℕ) (void stress : List ℕ) (n : ℕ) (conductivityVoid conductivity : List ℕ) : Type 0 where
   pub compressibility-few : curveLimits .least ≤ m
   pub compressibility-many : m ≤ curveLimits .most
   pub conductivity-few : curveLimits .least ≤ n
@@ -27,11 +26,3 @@ pub record OnSoil (m : ℕ) (void stress : List ℕ) (load : ℤ) (burden solids
   pub solids-positive : 0 < solids
   pub solids-most : solids ≤ solidsLimits .most
   pub on-curve : isOn (effectiveStress (skeletonOf (points m void stress)) solids water) ≡ true
-
--- p and r of element j, as arrays hold the layer
-abbrev pub excessAt : (compressibility : List Point) (load : ℤ) (burden solids water : List ℕ) → ℕ → ℤ
-excessAt compressibility load burden solids water j =
-    excessPressure (skeletonOf compressibility) load (getD burden j 0) (getD solids j 0) (getD water j 0)
-
-abbrev pub resistanceAt : (conductivity : List Point) (solids water : List ℕ) → ℕ → ℕ
-resistanceAt conductivity solids water j = resistance conductivity (getD solids j 0) (getD water j 0)

@@ -1,15 +1,18 @@
 // What a step reads of an element, and of all elements.
-ghost use lib.ListN.{length, getD};
+ghost use lib.ListN.{length};
 ghost use mathlib.Core.Path.{_≡_};
-ghost use Prim.Native.Nat.{ℕ, _+_, _≤_, _<_};
+ghost use Prim.Native.Nat.{_+_, _≤_, _<_};
+ghost use Rattle.layer.specs.Held.{Held, heldOf, excessAt, resistanceAt, Stands};
 ghost use Rattle.layer.specs.Segments.{Segments};
-ghost use Rattle.layer.specs.Soil.{Soil, OnSoil, excessAt, resistanceAt};
+ghost use Rattle.layer.specs.Soil.{SoilSound, OnSoil};
 ghost use Rattle.numbers.specs.Arrays.{filled};
 ghost use Rattle.rules.specs.Curve.{points};
 ghost use Rattle.rules.specs.Layer.{skeletonOf, excessPressure, resistance};
 ghost use Rattle.rules.specs.Quantities.{elementLimits, pressure};
+ghost use Rattle.rules.specs.Record.{soilOf};
 use curves::reading;
 use rules::quantities::Pressure;
+use rules::record::CurveCounts;
 use rules::record::Skeleton;
 
 // An element as read, with the segments of both curves where it was found.
@@ -35,7 +38,7 @@ pub fn read_element<'a>(
     stress_hint: usize,
     conductivity_hint: usize,
 ) -> Read
-    requires { ⌜ Soil (skeleton .points) (now void) (now stress) «conductivity_points» (now «conductivity_void») (now conductivity) ⌝ }
+    requires { ⌜ SoilSound (skeleton .points) (now void) (now stress) «conductivity_points» (now «conductivity_void») (now conductivity) ⌝ }
     requires { ⌜ OnSoil (skeleton .points) (now void) (now stress) (load .0) burden solids water ⌝ }
     ensures { λ r. ⌜ (r .excess ≡ pressure (excessPressure (skeletonOf (points (skeleton .points) (now (void .entry)) (now (stress .entry)))) (load .0) burden solids water)) × (r .resistance ≡ resistance (points «conductivity_points» (now («conductivity_void» .entry)) (now (conductivity .entry))) solids water) ⌝ }
     ensures { λ r. ⌜ (r .«stress_segment» + 1 < (skeleton .points)) × (r .«conductivity_segment» + 1 < «conductivity_points») ⌝ }
@@ -63,29 +66,31 @@ pub fn read_element<'a>(
 pub fn read_elements<'a>(
     elements: usize,
     load: Pressure,
+    counts: CurveCounts,
+    void: &'a [u64; 64],
+    stress: &'a [u64; 64],
+    conductivity_void: &'a [u64; 64],
+    conductivity: &'a [u64; 64],
     burden: &'a [u64; 128],
     solids: &'a [u64; 128],
     water: &'a [u64; 128],
-    skeleton: Skeleton,
-    void: &'a [u64; 64],
-    stress: &'a [u64; 64],
-    conductivity_points: usize,
-    conductivity_void: &'a [u64; 64],
-    conductivity: &'a [u64; 64],
     stress_segment: &mut [usize; 128],
     conductivity_segment: &mut [usize; 128],
     excess: &mut [i64; 128],
     resistance: &mut [u64; 128],
 )
-    requires { ⌜ elements ≤ elementLimits .most ⌝ }
-    requires { ⌜ Soil (skeleton .points) (now void) (now stress) «conductivity_points» (now «conductivity_void») (now conductivity) ⌝ }
-    requires { ⌜ ((j : ℕ) → j < elements → OnSoil (skeleton .points) (now void) (now stress) (load .0) (getD (now burden) j 0) (getD (now solids) j 0) (getD (now water) j 0)) ⌝ }
-    requires { ⌜ (length (now excess) ≡ 128) × (length (now resistance) ≡ 128) × (length (now «stress_segment») ≡ 128) × (length (now «conductivity_segment») ≡ 128) ⌝ }
-    ensures { λ _. ⌜ now (excess .exit) ≡ filled (now (excess .entry)) elements (excessAt (points (skeleton .points) (now (void .entry)) (now (stress .entry))) (load .0) (now (burden .entry)) (now (solids .entry)) (now (water .entry))) ⌝ }
-    ensures { λ _. ⌜ now (resistance .exit) ≡ filled (now (resistance .entry)) elements (resistanceAt (points «conductivity_points» (now («conductivity_void» .entry)) (now (conductivity .entry))) (now (solids .entry)) (now (water .entry))) ⌝ }
-    ensures { λ _. ⌜ Segments elements (skeleton .points) (now («stress_segment» .entry)) (now («stress_segment» .exit)) ⌝ }
-    ensures { λ _. ⌜ Segments elements «conductivity_points» (now («conductivity_segment» .entry)) (now («conductivity_segment» .exit)) ⌝ }
+    ghost { Held }
+    requires { λ h. ⌜ heldOf (soilOf counts (now void) (now stress) (now «conductivity_void») (now conductivity)) elements (load .0) (now burden) (now solids) (now water) ≡ h ⌝ }
+    requires { λ h. ⌜ elements ≤ elementLimits .most ⌝ }
+    requires { λ h. ⌜ Stands h ⌝ }
+    requires { λ h. ⌜ (length (now excess) ≡ 128) × (length (now resistance) ≡ 128) × (length (now «stress_segment») ≡ 128) × (length (now «conductivity_segment») ≡ 128) ⌝ }
+    ensures { λ h _. ⌜ now (excess .exit) ≡ filled (now (excess .entry)) elements (excessAt h) ⌝ }
+    ensures { λ h _. ⌜ now (resistance .exit) ≡ filled (now (resistance .entry)) elements (resistanceAt h) ⌝ }
+    ensures { λ h _. ⌜ Segments elements (counts .compressibility) (now («stress_segment» .entry)) (now («stress_segment» .exit)) ⌝ }
+    ensures { λ h _. ⌜ Segments elements (counts .conductivity) (now («conductivity_segment» .entry)) (now («conductivity_segment» .exit)) ⌝ }
 {
+    let points = counts.compressibility;
+    let conductivity_points = counts.conductivity;
     let mut j: usize = 0;
     while j < elements {
         let one = read_element(
@@ -93,7 +98,7 @@ pub fn read_elements<'a>(
             burden[j],
             solids[j],
             water[j],
-            skeleton,
+            Skeleton { points },
             void,
             stress,
             conductivity_points,

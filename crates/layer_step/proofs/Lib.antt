@@ -1,3 +1,2 @@
 -- Laws of a moving layer as arrays hold it.
 pub mod MovingAt
-pub mod TurningAt

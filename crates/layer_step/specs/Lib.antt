@@ -1,3 +1,2 @@
 -- What the contracts of a moving layer cite beside the rules.
 pub mod Moving
-pub mod Turning

@@ -1,30 +1,23 @@
 // A step that reads the layer, and moves its water.
+ghost use lib.IntN.{ℤ};
 ghost use lib.ListN.{length, getD};
 ghost use mathlib.Core.Bool.{true};
 ghost use mathlib.Core.List.{List};
 ghost use mathlib.Core.Path.{_≡_};
-ghost use Prim.Native.Nat.{ℕ, _≤_, _<_};
+ghost use Prim.Native.Nat.{ℕ, _-_, _≤_, _<_};
 ghost use Rattle.element.specs.Elements.{Readable, flowAbove};
 ghost use Rattle.laws.specs.Bounds.{lowestWater, highestWater};
 ghost use Rattle.laws.specs.Outflow.{HeldWithin};
-ghost use Rattle.laws.specs.Rising.{lastAbscissa};
-ghost use Rattle.layer.specs.Segments.{Segments};
-ghost use Rattle.layer.specs.Soil.{Soil, OnSoil, excessAt, resistanceAt};
-ghost use Rattle.layer_step.specs.Moving.{flowsIn, movedBy, waterAfter, staysOn, Bounded, SomeBounds};
-ghost use Rattle.layer_step.specs.Turning.{longestUpTo, turnedBy, waterTurned, flowsTurned, Worked, Shows, SomeShown};
+ghost use Rattle.layer_step.specs.Moving.{flowsIn, movedIn, waterIn, longestBy, waterLongest, flowsLongest};
 ghost use Rattle.numbers.specs.Arrays.{filled};
-ghost use Rattle.rules.proofs.Falling.{firstAbscissa};
-ghost use Rattle.rules.specs.Curve.{Point, points, compressibilitySound, curveSteepness};
+ghost use Rattle.rules.specs.Curve.{points, compressibilitySound, curveSteepness};
 ghost use Rattle.rules.specs.Layer as layer;
-ghost use Rattle.rules.specs.Layer.{Site, State};
-ghost use Rattle.rules.specs.Run as run;
-ghost use Rattle.rules.specs.Quantities.{stepLimits, waterLimits, solidsLimits, elementLimits, curveLimits};
+ghost use Rattle.rules.specs.Quantities.{stepLimits, stressLimits, waterLimits, solidsLimits, elementLimits, curveLimits};
+ghost use Rattle.step_length.specs.Reach.{Limited, longestWithin};
 use curves::steep;
 use layer::flows;
-use layer::read;
 use rules::answers::Stop;
 use rules::quantities::Face;
-use rules::quantities::Pressure;
 use rules::record::Skeleton;
 
 // What a step gives: the flows up through the bottom and up through the top, or that it leaves the curve.
@@ -33,7 +26,7 @@ pub enum Moved {
     Leaves,
 }
 
-// Moves the water of every element by the flows of t seconds, unless one would leave the curve.
+// Moves the water of every element by the flows of t seconds, unless one would leave its bounds.
 pub fn advance<'a>(
     elements: usize,
     top: Face,
@@ -46,16 +39,17 @@ pub fn advance<'a>(
     above: &mut [i64; 128],
     water: &mut [u64; 128],
 ) -> Moved
-    requires { ⌜ (0 < elements) × (elements ≤ elementLimits .most) ⌝ }
-    requires { ⌜ HeldWithin top × HeldWithin bottom ⌝ }
-    requires { ⌜ t ≤ stepLimits .most ⌝ }
-    requires { ⌜ Readable elements (now excess) (now resistance) ⌝ }
-    requires { ⌜ ((j : ℕ) → j < elements → (getD (now low) j 0 ≤ waterLimits .most) × (getD (now high) j 0 ≤ waterLimits .most) × (getD (now water) j 0 ≤ waterLimits .most)) ⌝ }
-    requires { ⌜ (length (now above) ≡ 128) × (length (now water) ≡ 128) ⌝ }
-    requires { ⌜ SomeBounds elements (now low) (now high) ⌝ }
-    ensures { λ r. ⌜ ((curve : List Point) (solids : List ℕ) → Bounded curve elements solids (now (low .entry)) (now (high .entry)) → r ≡ movedBy (staysOn curve elements solids (flowsIn top bottom t elements (now (excess .entry)) (now (resistance .entry))) (now (water .entry))) (flowsIn top bottom t elements (now (excess .entry)) (now (resistance .entry)))) ⌝ }
-    ensures { λ _. ⌜ ((curve : List Point) (solids : List ℕ) → Bounded curve elements solids (now (low .entry)) (now (high .entry)) → now (water .exit) ≡ waterAfter (staysOn curve elements solids (flowsIn top bottom t elements (now (excess .entry)) (now (resistance .entry))) (now (water .entry))) (flowsIn top bottom t elements (now (excess .entry)) (now (resistance .entry))) elements (now (water .entry))) ⌝ }
-    ensures { λ _. ⌜ now (above .exit) ≡ filled (now (above .entry)) elements (flowAbove top t elements (now (excess .entry)) (now (resistance .entry))) ⌝ }
+    ghost { List ℤ }
+    requires { λ flows. ⌜ flowsIn top bottom t elements (now excess) (now resistance) ≡ flows ⌝ }
+    requires { λ _. ⌜ (0 < elements) × (elements ≤ elementLimits .most) ⌝ }
+    requires { λ _. ⌜ HeldWithin top × HeldWithin bottom ⌝ }
+    requires { λ _. ⌜ t ≤ stepLimits .most ⌝ }
+    requires { λ _. ⌜ Readable elements (now excess) (now resistance) ⌝ }
+    requires { λ _. ⌜ ((j : ℕ) → j < elements → (getD (now low) j 0 ≤ waterLimits .most) × (getD (now high) j 0 ≤ waterLimits .most) × (getD (now water) j 0 ≤ waterLimits .most)) ⌝ }
+    requires { λ _. ⌜ (length (now above) ≡ 128) × (length (now water) ≡ 128) ⌝ }
+    ensures { λ flows r. ⌜ r ≡ movedIn elements (now (low .entry)) (now (high .entry)) (now (water .entry)) flows ⌝ }
+    ensures { λ flows _. ⌜ now (water .exit) ≡ waterIn elements (now (low .entry)) (now (high .entry)) (now (water .entry)) flows ⌝ }
+    ensures { λ _ _. ⌜ now (above .exit) ≡ filled (now (above .entry)) elements (flowAbove top t elements (now (excess .entry)) (now (resistance .entry))) ⌝ }
 {
     let lowest = flows::all_flows(elements, top, bottom, t, excess, resistance, above);
     if !water::stays_between(elements, lowest, above, water, low, high) {
@@ -66,7 +60,70 @@ pub fn advance<'a>(
     Moved::Flows(lowest, above[last])
 }
 
-// What is worked out once for a site: sensitivities and bounds of water in the first places, and the slope.
+// What the longest step gives: the stop where none is taken, or its seconds with the flows up through the bottom and up through the
+// top.
+pub enum Longest {
+    NoneTaken(Stop),
+    Taken(u64, i64, i64),
+}
+
+// Takes the longest step of at most so many seconds that is not too long.
+pub fn advance_longest<'a>(
+    elements: usize,
+    top: Face,
+    bottom: Face,
+    most: u64,
+    steepness: u64,
+    sensitivity: &'a [u64; 128],
+    excess: &'a [i64; 128],
+    resistance: &'a [u64; 128],
+    low: &'a [u64; 128],
+    high: &'a [u64; 128],
+    above: &mut [i64; 128],
+    water: &mut [u64; 128],
+) -> Longest
+    ghost { ℕ }
+    requires { λ t. ⌜ longestWithin top bottom steepness elements (now resistance) (now sensitivity) most ≡ t ⌝ }
+    requires { λ _. ⌜ (0 < elements) × (elements ≤ elementLimits .most) ⌝ }
+    requires { λ _. ⌜ HeldWithin top × HeldWithin bottom × (most ≤ stepLimits .most) ⌝ }
+    requires { λ _. ⌜ (0 < steepness) × (steepness ≤ stressLimits .most) × Limited elements (now resistance) (now sensitivity) ⌝ }
+    requires { λ _. ⌜ Readable elements (now excess) (now resistance) ⌝ }
+    requires { λ _. ⌜ ((j : ℕ) → j < elements → (getD (now low) j 0 ≤ waterLimits .most) × (getD (now high) j 0 ≤ waterLimits .most) × (getD (now water) j 0 ≤ waterLimits .most)) ⌝ }
+    requires { λ _. ⌜ (length (now above) ≡ 128) × (length (now water) ≡ 128) ⌝ }
+    ensures { λ t r. ⌜ r ≡ longestBy t (movedIn elements (now (low .entry)) (now (high .entry)) (now (water .entry)) (flowsIn top bottom t elements (now (excess .entry)) (now (resistance .entry)))) ⌝ }
+    ensures { λ t _. ⌜ now (water .exit) ≡ waterLongest t elements (now (low .entry)) (now (high .entry)) (now (water .entry)) (flowsIn top bottom t elements (now (excess .entry)) (now (resistance .entry))) ⌝ }
+    ensures { λ t _. ⌜ now (above .exit) ≡ flowsLongest t elements top (now (excess .entry)) (now (resistance .entry)) (now (above .entry)) ⌝ }
+{
+    let t = step_length::longest(
+        elements,
+        top,
+        bottom,
+        steepness,
+        resistance,
+        sensitivity,
+        most,
+    );
+    if t == 0 {
+        return Longest::NoneTaken(Stop::NoStep);
+    }
+    match advance(
+        elements,
+        top,
+        bottom,
+        t,
+        excess,
+        resistance,
+        low,
+        high,
+        above,
+        water,
+    ) {
+        Moved::Leaves => Longest::NoneTaken(Stop::OffCurve),
+        Moved::Flows(first, last) => Longest::Taken(t, first, last),
+    }
+}
+
+// What is worked out once for a site: sensitivities and bounds of water in the first places, and the curve's steepness.
 pub fn prepare<'a>(
     elements: usize,
     solids: &'a [u64; 128],
@@ -83,95 +140,11 @@ pub fn prepare<'a>(
     requires { ⌜ (length (now sensitivity) ≡ 128) × (length (now low) ≡ 128) × (length (now high) ≡ 128) ⌝ }
     ensures { λ r. ⌜ r ≡ curveSteepness (points (skeleton .points) (now (void .entry)) (now (stress .entry))) ⌝ }
     ensures { λ _. ⌜ now (sensitivity .exit) ≡ filled (now (sensitivity .entry)) elements (λ j. layer.sensitivity (getD (now (solids .entry)) j 0)) ⌝ }
-    ensures { λ _. ⌜ now (low .exit) ≡ filled (now (low .entry)) elements (λ j. lowestWater (getD (now (solids .entry)) j 0) (lastAbscissa (points (skeleton .points) (now (void .entry)) (now (stress .entry))))) ⌝ }
-    ensures { λ _. ⌜ now (high .exit) ≡ filled (now (high .entry)) elements (λ j. highestWater (getD (now (solids .entry)) j 0) (firstAbscissa (points (skeleton .points) (now (void .entry)) (now (stress .entry))))) ⌝ }
+    ensures { λ _. ⌜ now (low .exit) ≡ filled (now (low .entry)) elements (λ j. lowestWater (getD (now (solids .entry)) j 0) (getD (now (void .entry)) (skeleton .points - 1) 0)) ⌝ }
+    ensures { λ _. ⌜ now (high .exit) ≡ filled (now (high .entry)) elements (λ j. highestWater (getD (now (solids .entry)) j 0) (getD (now (void .entry)) 0 0)) ⌝ }
 {
     step_length::sensitivities(elements, solids, sensitivity);
     let last = skeleton.points - 1;
     water::water_bounds(elements, solids, void[last], void[0], low, high);
     steep::curve_steepness(skeleton.points, void, stress)
-}
-
-// What one pass of a run's loop gives: its stop, or its step with the flows up through the bottom and up through the top.
-pub enum Turned {
-    Stopped(Stop),
-    Stepped(u64, i64, i64),
-}
-
-// Reads the layer under a load, and takes the longest step of at most so many seconds.
-pub fn turn<'a>(
-    count: usize,
-    top: Face,
-    bottom: Face,
-    load: Pressure,
-    most: u64,
-    steepness: u64,
-    burden: &'a [u64; 128],
-    solids: &'a [u64; 128],
-    sensitivity: &'a [u64; 128],
-    low: &'a [u64; 128],
-    high: &'a [u64; 128],
-    skeleton: Skeleton,
-    void: &'a [u64; 64],
-    stress: &'a [u64; 64],
-    conductivity_points: usize,
-    conductivity_void: &'a [u64; 64],
-    conductivity: &'a [u64; 64],
-    stress_segment: &mut [usize; 128],
-    conductivity_segment: &mut [usize; 128],
-    excess: &mut [i64; 128],
-    resistance: &mut [u64; 128],
-    above: &mut [i64; 128],
-    water: &mut [u64; 128],
-) -> Turned
-    requires { ⌜ (0 < count) × (count ≤ elementLimits .most) ⌝ }
-    requires { ⌜ HeldWithin top × HeldWithin bottom × (most ≤ stepLimits .most) ⌝ }
-    requires { ⌜ Soil (skeleton .points) (now void) (now stress) «conductivity_points» (now «conductivity_void») (now conductivity) ⌝ }
-    requires { ⌜ ((j : ℕ) → j < count → OnSoil (skeleton .points) (now void) (now stress) (load .0) (getD (now burden) j 0) (getD (now solids) j 0) (getD (now water) j 0)) ⌝ }
-    requires { ⌜ Worked count (points (skeleton .points) (now void) (now stress)) (now solids) (now sensitivity) (now low) (now high) steepness ⌝ }
-    requires { ⌜ (length (now excess) ≡ 128) × (length (now resistance) ≡ 128) × (length (now above) ≡ 128) × (length (now water) ≡ 128) × (length (now «stress_segment») ≡ 128) × (length (now «conductivity_segment») ≡ 128) ⌝ }
-    requires { ⌜ SomeShown count top bottom (load .0) (now burden) (now solids) (now water) (skeleton .points) (now void) (now stress) «conductivity_points» (now «conductivity_void») (now conductivity) ⌝ }
-    ensures { λ r. ⌜ ((site : Site) (s : State) → Shows site s count top bottom (load .0) (now (burden .entry)) (now (solids .entry)) (now (water .entry)) (skeleton .points) (now (void .entry)) (now (stress .entry)) «conductivity_points» (now («conductivity_void» .entry)) (now (conductivity .entry)) → r ≡ turnedBy site s (run.turn site s (longestUpTo site s most))) ⌝ }
-    ensures { λ _. ⌜ ((site : Site) (s : State) → Shows site s count top bottom (load .0) (now (burden .entry)) (now (solids .entry)) (now (water .entry)) (skeleton .points) (now (void .entry)) (now (stress .entry)) «conductivity_points» (now («conductivity_void» .entry)) (now (conductivity .entry)) → now (water .exit) ≡ waterTurned site s (run.turn site s (longestUpTo site s most)) (now (water .entry))) ⌝ }
-    ensures { λ _. ⌜ ((site : Site) (s : State) → Shows site s count top bottom (load .0) (now (burden .entry)) (now (solids .entry)) (now (water .entry)) (skeleton .points) (now (void .entry)) (now (stress .entry)) «conductivity_points» (now («conductivity_void» .entry)) (now (conductivity .entry)) → now (above .exit) ≡ flowsTurned site s count (longestUpTo site s most) (now (above .entry))) ⌝ }
-    ensures { λ _. ⌜ (now (excess .exit) ≡ filled (now (excess .entry)) count (excessAt (points (skeleton .points) (now (void .entry)) (now (stress .entry))) (load .0) (now (burden .entry)) (now (solids .entry)) (now (water .entry)))) × (now (resistance .exit) ≡ filled (now (resistance .entry)) count (resistanceAt (points «conductivity_points» (now («conductivity_void» .entry)) (now (conductivity .entry))) (now (solids .entry)) (now (water .entry)))) ⌝ }
-    ensures { λ _. ⌜ Segments count (skeleton .points) (now («stress_segment» .entry)) (now («stress_segment» .exit)) ⌝ }
-    ensures { λ _. ⌜ Segments count «conductivity_points» (now («conductivity_segment» .entry)) (now («conductivity_segment» .exit)) ⌝ }
-{
-    read::read_elements(
-        count,
-        load,
-        burden,
-        solids,
-        water,
-        skeleton,
-        void,
-        stress,
-        conductivity_points,
-        conductivity_void,
-        conductivity,
-        stress_segment,
-        conductivity_segment,
-        excess,
-        resistance,
-    );
-    let t = step_length::longest(count, top, bottom, steepness, resistance, sensitivity, most);
-    if t == 0 {
-        return Turned::Stopped(Stop::NoStep);
-    }
-    match advance(
-        count,
-        top,
-        bottom,
-        t,
-        excess,
-        resistance,
-        low,
-        high,
-        above,
-        water,
-    ) {
-        Moved::Leaves => Turned::Stopped(Stop::OffCurve),
-        Moved::Flows(first, last) => Turned::Stepped(t, first, last),
-    }
 }

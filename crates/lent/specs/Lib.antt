@@ -1,5 +1,6 @@
 -- A record that is a layer: what its arrays give to the functions that are lent them, and what calls on it answer.
 pub mod Burdens
+pub mod Worked
 pub mod Progress
 pub mod Standing
 pub mod CallLaws

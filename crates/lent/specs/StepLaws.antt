@@ -10,25 +10,23 @@ use native.Mathlib.Omega.{arith}
 use mathlib.Core.Path.{_≡_, refl, sym, ap, subst, _∙_}
 use Rattle.lent.specs.CallLaws.{on-layer, refused-on-layer}
 use Rattle.lent.specs.Progress.{refusedWith}
-use Rattle.lent.specs.Standing.{site-is, state-is, curve, counted, weighted, solid, burden, sensitivity, low, high, on-soil, on-soil-with, worked, shows, shows-with}
+use Rattle.lent.specs.Burdens.{burdensIn}
+use Rattle.lent.specs.Reads.{steepness-range}
+use Rattle.lent.specs.Standing.{site-is, state-is, counted, weighted, solid, on-soil}
 use Rattle.laws.specs.Every.{every-tabulate}
 use Rattle.laws.specs.Excess.{excesses-within}
 use Rattle.laws.specs.Outflow.{OuterWithin, outflow-within}
-use Rattle.laws.specs.Steep.{steep-positive}
 use Rattle.layer.specs.Soil.{OnSoil}
-use Rattle.layer_step.specs.Turning.{Worked, Shows}
 use Rattle.numbers.specs.Arrays.{firstPlaces}
 use Rattle.numbers.specs.Filled.{first-length}
 use Rattle.numbers.specs.Interval.{Within}
 use Rattle.numbers.specs.Lists.{firstOr, lastOr}
 use Rattle.numbers.specs.Searches.{passed}
-use Rattle.laws.specs.Amid.{Between}
-use Rattle.rules.specs.Curve.{isOn, curveSteepness}
-use Rattle.rules.specs.Layer.{Site, State, skeletonOf, elements, effectiveStress}
+use Rattle.rules.specs.Layer.{Site, State, elements}
 use Rattle.rules.specs.Calls.{called}
 use Rattle.rules.specs.declared.answers.Answered.{Answered}
 use Rattle.rules.specs.Outcome.{Outcome, refused, outcome}
-use Rattle.rules.specs.Quantities.{within, stepLimits, clockLimits, stressLimits, solidsLimits}
+use Rattle.rules.specs.Quantities.{within, stepLimits, clockLimits, solidsLimits}
 use Rattle.rules.specs.Record.{recordSite, recordState, isLayer}
 use Rattle.rules.specs.Refusals.{_if_, firstCause}
 use Rattle.rules.specs.Run.{stepTaken}
@@ -92,32 +90,11 @@ step-refused r t cause is e = go (stepRefusal (recordSite r) (recordState r) t) 
         let done : Done ≡ Refused cause = sym (ap (λ (a : Answered). a .answer) answers) ∙ e in
         absurd (let z : _≡_ {A = ℕ} 0 1 = cc in omega arith)
 
--- ---- the arrays of a layer
+-- ---- a layer
 
-module _ (r : Record) (is : isLayer r ≡ true) where
-  pub on-soil-as : {b : List ℕ} → b ≡ burden r is → (j : ℕ) → j < (r .layer .frame .elements) →
-      OnSoil (r .soil .counts .compressibility) (r .soil .«compressibility_void») (r .soil .«compressibility_stress») (r .layer .progress .load .0) (getD b j 0) (getD (r .layer .solids) j 0) (getD (r .layer .water) j 0)
-  on-soil-as e j h = rw e (on-soil r is j h)
-
-  pub on-soil-with-as : {b : List ℕ} (load : ℤ) (water : List ℕ) → b ≡ burden r is →
-      Between (pos 0) (pos (stressLimits .most)) load →
-      ((j : ℕ) → j < (r .layer .frame .elements) → isOn (effectiveStress (skeletonOf (curve r is)) (getD (r .layer .solids) j 0) (getD water j 0)) ≡ true) → (j : ℕ) → j < (r .layer .frame .elements) →
-      OnSoil (r .soil .counts .compressibility) (r .soil .«compressibility_void») (r .soil .«compressibility_stress») load (getD b j 0) (getD (r .layer .solids) j 0) (getD water j 0)
-  on-soil-with-as load water e limits on j h = rw e (on-soil-with r is load water limits on j h)
-
-  pub shows-with-as : {b : List ℕ} (s : State) (water : List ℕ) → b ≡ burden r is → s.water ≡ firstPlaces (r .layer .frame .elements) water →
-      Shows (recordSite r) s (r .layer .frame .elements) (r .layer .frame .top) (r .layer .frame .bottom) s.load b (r .layer .solids) water (r .soil .counts .compressibility) (r .soil .«compressibility_void»)
-      (r .soil .«compressibility_stress») (r .soil .counts .conductivity) (r .soil .«conductivity_void») (r .soil .conductivity)
-  shows-with-as s water e w = rw e (shows-with r is s water w)
-
-  pub worked-as : {c l h : List ℕ} {g : ℕ} → c ≡ sensitivity r is → l ≡ low r is →
-      h ≡ high r is → g ≡ curveSteepness (curve r is) → Worked (r .layer .frame .elements) (curve r is) (r .layer .solids) c l h g
-  worked-as p q u v = rw (p, q, u, v) (worked r is)
-
-  pub shows-as : {b : List ℕ} → b ≡ burden r is →
-      Shows (recordSite r) (recordState r) (r .layer .frame .elements) (r .layer .frame .top) (r .layer .frame .bottom) (r .layer .progress .load .0) b (r .layer .solids) (r .layer .water) (r .soil .counts .compressibility) (r .soil .«compressibility_void»)
-      (r .soil .«compressibility_stress») (r .soil .counts .conductivity) (r .soil .«conductivity_void») (r .soil .conductivity)
-  shows-as e = rw e (shows r is)
+pub on-soil-as : (r : Record) (is : isLayer r ≡ true) {b : List ℕ} → b ≡ burdensIn (r .layer .frame) (r .layer .solids) → (j : ℕ) → j < (r .layer .frame .elements) →
+    OnSoil (r .soil .counts .compressibility) (r .soil .«compressibility_void») (r .soil .«compressibility_stress») (r .layer .progress .load .0) (getD b j 0) (getD (r .layer .solids) j 0) (getD (r .layer .water) j 0)
+on-soil-as r is e j h = rw e (on-soil r is j h)
 
 -- a bound holds for an equal number
 pub within-as : {a b : ℤ} {n : ℕ} → a ≡ b → Within b n → Within a n
@@ -132,7 +109,7 @@ unfolding recordSite recordState firstPlaces siteSteepness
 outer-flows r is t h short =
     let n = (r .layer .frame .elements) in
     outflow-within (recordSite r) (recordState r) t h
-    (steep-positive (curve r is) (worked r is .bounded .falls) (worked r is .bounded .two))
+    (steepness-range r is .0)
     (every-tabulate (λ S. 0 < S) n (λ i. getD (r .layer .solids) i 0) (λ i l. solid r is i l .0))
     (site-is r is .top-held) (site-is r is .bottom-held)
     (excesses-within (recordSite r) (passed (site-is r is .compressibility)) (recordState r) (state-is r is .load-between) (weighted r is .1)

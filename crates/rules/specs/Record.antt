@@ -9,7 +9,7 @@ use Rattle.numbers.specs.Integers.{eqℤ}
 use Rattle.numbers.specs.Lists.{all}
 use Rattle.numbers.specs.Sums.{sum}
 use Rattle.rules.specs.Quantities.{within, withinℤ, stressLimits, levelLimits, clockLimits, solidsLimits, waterLimits, gravityLimits, elementLimits, curveLimits, tableLimits, flagLimits, startingWaterLimits, outflowRate, pressure}
-use Rattle.rules.specs.Curve.{points, compressibilitySound, conductivitySound}
+use Rattle.rules.specs.Curve.{Point, points, compressibilitySound, conductivitySound}
 use Rattle.rules.specs.Layer.{Site, State, skeleton, topPressure, bottomPressure}
 use Rattle.rules.specs.Step.{allOnCurve}
 use Rattle.rules.specs.Load.{tableSound}
@@ -73,13 +73,20 @@ layerOf frame progress solids water tableTime tableLoad = record {
 abbrev pub recordOf : Soil → Layer → Record
 recordOf soil layer = record { soil = soil; layer = layer }
 
+-- the points of a soil's curves
+abbrev pub compressibilityPoints : Soil → List Point
+compressibilityPoints soil = points (soil .counts .compressibility) (soil .«compressibility_void») (soil .«compressibility_stress»)
+
+abbrev pub conductivityPoints : Soil → List Point
+conductivityPoints soil = points (soil .counts .conductivity) (soil .«conductivity_void») (soil .conductivity)
+
 -- what a record holds of a job
 unfoldable pub recordSite : Record → Site
 unfolding firstPlaces points
 recordSite r = record {
   solids = firstPlaces (r .layer .frame .elements) (r .layer .solids);
-  compressibility = points (r .soil .counts .compressibility) (r .soil .«compressibility_void») (r .soil .«compressibility_stress»);
-  conductivity = points (r .soil .counts .conductivity) (r .soil .«conductivity_void») (r .soil .conductivity);
+  compressibility = compressibilityPoints (r .soil);
+  conductivity = conductivityPoints (r .soil);
   loadTable = points (r .layer .frame .«table_points») (r .layer .«table_time») (r .layer .«table_load»);
   top = r .layer .frame .top;
   bottom = r .layer .frame .bottom;

@@ -1,5 +1,2 @@
--- The laws of a run: pass by pass, what its loop keeps, and what it answers.
-pub mod Given
-pub mod Reached
-pub mod Pass
+-- Laws of a run on a layer.
 pub mod RunLaws

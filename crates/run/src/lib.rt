@@ -26,8 +26,6 @@ use rules::record::Progress;
 use rules::record::Record;
 use rules::record::Skeleton;
 
-pub mod passes;
-
 // A run within its limits, on a layer that is lent by its parts with its burdens; the water is left as the run leaves it. What a run
 // works out once is worked out only where it takes a pass.
 pub fn run_lent<'a>(

@@ -3,25 +3,23 @@ use lib.IntN.{ℤ, pos}
 use lib.ListN.{getD}
 use native.Mathlib.Omega.{arith}
 use Prim.Native.Nat.{ℕ, _-_}
-use mathlib.Core.List.{List, map}
+use mathlib.Core.List.{List}
 use mathlib.Core.Path.{_≡_, sym, ap, _∙_}
 use mir.Syntax.{w64}
 use mir.Val.{ofZ, toZ}
-use Rattle.layer_step.proofs.MovingAt.{lowest, above, stays-is, movable, movable-as, stays-as, filled-as, gives-leaves, gives-flows, keeps, moves-on, stays-positive, first-flow, last-flow, water-is}
+use Rattle.layer_step.proofs.MovingAt.{lowest, above, stays-now, movable, movable-as, stays-as, filled-as, gives-leaves, gives-flows, keeps, moves-on, stays-positive, first-flow, last-flow, water-is}
 use Rattle.numbers.specs.Signed.{readBack}
-use Rattle.layer_step.specs.Moving.{flowsIn, newHeights, staysOn, Bounded}
-use Rattle.numbers.specs.Arrays.{firstPlaces, overlaid, filled, everyIndex}
+use Rattle.layer_step.specs.Moving.{flowsIn, newHeights, staysBetween}
+use Rattle.numbers.specs.Arrays.{overlaid, filled, everyIndex}
 use Rattle.numbers.specs.Interval.{within-fits}
 use Rattle.numbers.specs.Lists.{firstOr, lastOr}
-use Rattle.rules.specs.Curve.{Point}
-use Rattle.rules.specs.Step.{moved}
-use Rattle.water.specs.Water.{newWater, heightAfter, staysAt, Movable}
+use Rattle.water.specs.Water.{heightAfter, staysAt, Movable}
 use borrow.Author.Needs.{needs}
 use Rattle.layer_step.proofs.advance.Statement.{statement}
 use Rattle.layer_step.proofs.advance.Tie as tie
 
 all-flows-requires : tie.Need-all-flows-requires
-all-flows-requires c κs = let s = c .before in (s .pre .0, (s .pre .1 .0, (s .pre .1 .1 .0, (s .pre .1 .1 .1 .0, s .pre .1 .1 .1 .1 .1 .0 .0))))
+all-flows-requires c κs = let s = c .before in (s .pre .0, (s .pre .1 .0, (s .pre .1 .1 .0, (s .pre .1 .1 .1 .0, s .pre .1 .1 .1 .1 .1 .0))))
 
 -- the flows as the arrays hold them
 module _ (c : tie.After-all-flows) where
@@ -63,18 +61,18 @@ module _ (c : tie.After-all-flows) where
       sym (last-flow (s .args .elements) (s .pre .0 .0) (s .args .top) (s .args .bottom) (s .args .t) (s .args .excess .now) (s .args .resistance .now) (s .args .above .now))
 
   water-now : filled (s .args .water .now) (s .args .elements) (heightAfter (toZ w64 (ofZ w64 (c .all-flows .result))) now-above (s .args .water .now)) ≡
-      overlaid (newHeights (flowsIn (s .args .top) (s .args .bottom) (s .args .t) (s .args .elements) (s .args .excess .now) (s .args .resistance .now)) (s .args .elements) (s .args .water .now)) (s .args .water .now)
+      overlaid (newHeights (s .args .elements) (s .args .water .now) (flowsIn (s .args .top) (s .args .bottom) (s .args .t) (s .args .elements) (s .args .excess .now) (s .args .resistance .now))) (s .args .water .now)
   water-now =
       filled-as (s .args .elements) (s .args .water .now) bottom-is above-is ∙
       water-is (s .args .elements) (s .pre .0 .0) (s .args .top) (s .args .bottom) (s .args .t) (s .args .excess .now) (s .args .resistance .now) (s .args .above .now) (s .args .water .now)
 
-  module _ (curve : List Point) (solids : List ℕ) (bounded : Bounded curve (s .args .elements) solids (s .args .low .now) (s .args .high .now)) where
-    -- the test by bounds is the test by the curve
-    stays : everyIndex (s .args .elements) (staysAt (toZ w64 (ofZ w64 (c .all-flows .result))) (c .all-flows .last .1 .1 .1 .1 .1 .1 .0) (s .args .water .now) (s .args .low .now) (s .args .high .now)) ≡
-        staysOn curve (s .args .elements) solids (flowsIn (s .args .top) (s .args .bottom) (s .args .t) (s .args .elements) (s .args .excess .now) (s .args .resistance .now)) (s .args .water .now)
-    stays =
-        stays-as (s .args .elements) (s .args .water .now) (s .args .low .now) (s .args .high .now) bottom-is above-is ∙
-        stays-is (s .args .elements) (s .pre .0 .0) (s .args .top) (s .args .bottom) (s .args .t) (s .args .excess .now) (s .args .resistance .now) (s .args .above .now) (s .args .water .now) (s .args .low .now) (s .args .high .now) curve solids bounded
+  -- the test by bounds
+  stays : everyIndex (s .args .elements) (staysAt (toZ w64 (ofZ w64 (c .all-flows .result))) (c .all-flows .last .1 .1 .1 .1 .1 .1 .0) (s .args .water .now) (s .args .low .now) (s .args .high .now)) ≡
+      staysBetween (s .args .elements) (s .args .low .now) (s .args .high .now) (s .args .water .now)
+      (flowsIn (s .args .top) (s .args .bottom) (s .args .t) (s .args .elements) (s .args .excess .now) (s .args .resistance .now))
+  stays =
+      stays-as (s .args .elements) (s .args .water .now) (s .args .low .now) (s .args .high .now) bottom-is above-is ∙
+      stays-now (s .args .elements) (s .pre .0 .0) (s .args .top) (s .args .bottom) (s .args .t) (s .args .excess .now) (s .args .resistance .now) (s .args .above .now) (s .args .water .now) (s .args .low .now) (s .args .high .now)
 
 stays-between-requires : tie.Need-stays-between-requires
 stays-between-requires c κs =
@@ -84,15 +82,15 @@ stays-between-requires c κs =
 returns : tie.Need-returns
 returns c =
     let f = c .before .before .before .before in
-    let gone = sym (c .before .stays-between .ensures) ∙ not-true _ (c .if1 .taken) in
-    ((λ curve solids b. gives-leaves _ (sym (stays f curve solids b) ∙ gone)), ((λ curve solids b. keeps _ _ _ (sym (stays f curve solids b) ∙ gone)), f .all-flows .ensures .1))
+    let gone = sym (stays f) ∙ sym (c .before .stays-between .ensures) ∙ not-true _ (c .if1 .taken) in
+    (gives-leaves _ gone, (keeps _ _ _ gone, f .all-flows .ensures .1))
 
 move-water-requires : tie.Need-move-water-requires
 move-water-requires c κs =
     let s = c .before .before .before .before .before .before .before .before in
     let f = c .before .before .before .before .before .before in
     let on = sym (c .before .before .before .stays-between .ensures) ∙ not-false _ (c .before .before .if1 .left) in
-    (s .pre .0 .1, (moves-now f, (stays-positive (s .args .elements) _ (now-above f) (s .args .water .now) (s .args .low .now) (s .args .high .now) on, s .pre .1 .1 .1 .1 .1 .0 .1)))
+    (s .pre .0 .1, (moves-now f, (stays-positive (s .args .elements) _ (now-above f) (s .args .water .now) (s .args .low .now) (s .args .high .now) on, s .pre .1 .1 .1 .1 .1 .1)))
 
 sub-last : tie.Need-sub-last
 sub-last c = search needs
@@ -107,11 +105,8 @@ returns-2 : tie.Need-returns-2
 returns-2 c =
     let f = c .before .before .before .before .before .before .before .before in
     let on = sym (c .before .before .before .before .before .stays-between .ensures) ∙ not-false _ (c .before .before .before .before .if1 .left) in (
-      (λ curve solids b. gives-flows _ (sym (stays f curve solids b) ∙ on) (first-is f) (top-is f)),
-      (
-        (λ curve solids b. c .before .move-water .ensures ∙ water-now f ∙ moves-on _ _ _ (sym (stays f curve solids b) ∙ on)),
-        f .all-flows .ensures .1,
-      ),
+      gives-flows _ (sym (stays f) ∙ on) (first-is f) (top-is f),
+      (c .before .move-water .ensures ∙ water-now f ∙ moves-on _ _ _ (sym (stays f) ∙ on), f .all-flows .ensures .1),
     )
 
 pub advance-spec : {M : Type 1} → statement M

@@ -1,10 +1,4 @@
-use Prim.Native.Nat.{ℕ}
 use native.Mathlib.Omega.{arith}
-use lib.ListN.{getD}
-use mathlib.Core.Path.{sym, ap, _∙_}
-use Rattle.points.proofs.Covers.{ends}
-use Rattle.laws.specs.Bounds.{lowestWater, highestWater}
-use Rattle.numbers.specs.Arrays.{filled}
 use Rattle.rules.proofs.Sound.{compressible}
 use borrow.Author.Needs.{needs}
 use Rattle.layer_step.proofs.prepare.Statement.{statement}
@@ -35,20 +29,13 @@ curve-steepness-requires : tie.Need-curve-steepness-requires
 curve-steepness-requires c κs = search needs
 
 returns : tie.Need-returns
-returns c =
-    let s = c .before .before .before .before .before .before .before .before .before in
-    let (greatest-is, least-is) = ends (s .args .skeleton .points) (s .args .void .now) (s .args .stress .now) (omega (arith, s .pre .1 .1 .0 .0)) in (
-      c .curve-steepness .ensures,
-      (
-        c .before .before .before .before .before .before .before .sensitivities .ensures,
-        (
-          c .before .water-bounds .ensures .0 ∙
-              ap (λ (v : ℕ). filled (s .args .low .now) (s .args .elements) (λ j. lowestWater (getD (s .args .solids .now) j 0) v)) (sym least-is),
-          c .before .water-bounds .ensures .1 ∙
-              ap (λ (v : ℕ). filled (s .args .high .now) (s .args .elements) (λ j. highestWater (getD (s .args .solids .now) j 0) v)) (sym greatest-is),
-        ),
-      ),
-    )
+returns c = (
+  c .curve-steepness .ensures,
+  (
+    c .before .before .before .before .before .before .before .sensitivities .ensures,
+    (c .before .water-bounds .ensures .0, c .before .water-bounds .ensures .1),
+  ),
+)
 
 pub prepare-spec : {M : Type 1} → statement M
 prepare-spec =

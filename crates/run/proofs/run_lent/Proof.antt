@@ -5,13 +5,12 @@ use borrow.Author.Tests.{eq-eqb, ne-eqb}
 use mathlib.Core.Bool.{true}
 use mathlib.Core.Path.{_≡_, refl, sym, ap, _∙_}
 use Rattle.lent.specs.Standing.{counted, solid, soil}
-use Rattle.lent.specs.StepLaws.{worked-as}
 use Rattle.numbers.specs.Arrays.{zeros}
 use Rattle.rules.specs.Record.{soilOf, layerOf, recordOf, isLayer}
 use Rattle.rules.specs.declared.record.Record.{Record}
-use Rattle.run.proofs.Pass as law
-use Rattle.run.proofs.Pass.{ending}
-use Rattle.run.proofs.Reached.{Reached, begins}
+use Rattle.passes.proofs.OnePass as law
+use Rattle.passes.proofs.OnePass.{ending}
+use Rattle.passes.proofs.Reached.{Reached, begins}
 use Rattle.run.proofs.run_lent.Statement.{statement}
 use Rattle.run.proofs.run_lent.Tie as tie
 
@@ -57,8 +56,16 @@ unfolding zeros
 passes-requires c κs =
     let f = c .before .before .before .before in
     let s = f .before .before .before .before .before .before .before in
-    let gave = f .prepare .ensures in
-    (is s, (s .pre .1 .0, (s .pre .1 .1, worked-as (r s) (is s) (gave .1 .0) (gave .1 .1 .0) (gave .1 .1 .1) (gave .0))))
+    let gave = f .prepare .ensures in (
+      is s,
+      (
+        s .pre .1 .0,
+        (
+          record { burden-is = s .pre .1 .1 .1; sensitivity-is = gave .1 .0; low-is = gave .1 .1 .0; high-is = gave .1 .1 .1; steepness-is = gave .0 },
+          s .pre .1 .1 .0,
+        ),
+      ),
+    )
 
 returns-3 : tie.Need-returns-3
 returns-3 c = search needs

@@ -15,10 +15,8 @@ use Rattle.rules.specs.Quantities.{pressure}
 use Rattle.rules.specs.Record.{recordState, withParts, withEvents, isLayer}
 use Rattle.rules.specs.Run.{loadSet, afterEvent, afterEvents}
 use Rattle.rules.specs.declared.answers.Answer.the-variants.{Done}
-use Rattle.rules.specs.declared.answers.Answered.{Answered}
 use Rattle.rules.specs.declared.answers.Call.the-variants.{Load}
 use Rattle.rules.specs.declared.answers.Refusal.the-variants.{LoadOutside}
-use Rattle.rules.specs.declared.quantities.Pressure.{Pressure}
 use Rattle.rules.specs.declared.record.Record.{Record}
 use Rattle.calls.proofs.load.set_load.Statement.{statement}
 use Rattle.calls.proofs.load.set_load.Tie as tie

@@ -3,8 +3,8 @@ use borrow.Author.Needs.{needs}
 use lib.ListN.{length, length-map}
 use mathlib.Core.List.{List}
 use mathlib.Core.Path.{_≡_, sym, ap, _∙_}
-use Rattle.calls.specs.Answers.{stepAnswered}
-use Rattle.calls.specs.declared.step.Stepped.{Stepped}
+use Rattle.lent_step.specs.Answers.{stepAnswered}
+use Rattle.lent_step.specs.declared.Stepped.{Stepped}
 use Rattle.lent.specs.StepLaws.{step-refused}
 use Rattle.rules.specs.Calls.{called}
 use Rattle.rules.specs.declared.answers.Answer.the-variants.{Done}

@@ -13,7 +13,6 @@ use Rattle.rules.specs.Quantities.{within, stepLimits}
 use Rattle.rules.specs.Record.{recordState, isLayer}
 use Rattle.rules.specs.declared.answers.Call.the-variants.{Step}
 use Rattle.rules.specs.declared.answers.Refusal.the-variants.{StepOutside}
-use Rattle.rules.specs.declared.record.Record.{Record}
 use Rattle.calls.proofs.step.take_step.Statement.{statement}
 use Rattle.calls.proofs.step.take_step.Tie as tie
 

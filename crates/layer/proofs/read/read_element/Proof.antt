@@ -8,14 +8,14 @@ use Rattle.rules.specs.Quantities.{stressLimits, waterLimits, pressure}
 use Rattle.rules.specs.Curve.{points, curveAt, valueOf}
 use Rattle.rules.specs.Layer.{skeletonOf, effectiveStress, hydraulicConductivity, excessPressure, resistance}
 use Rattle.curves.proofs.SmoothCurves.{conductivity-smooth}
-use Rattle.layer.specs.Soil.{Soil, OnSoil}
+use Rattle.layer.specs.Soil.{SoilSound, OnSoil}
 use Rattle.layer.proofs.ReadAt.{water-most, stress-most, conductivity-range}
 use borrow.Author.Needs.{needs}
 use Rattle.layer.proofs.read.read_element.Statement.{statement}
 use Rattle.layer.proofs.read.read_element.Tie as tie
 
 module _ (c : tie.Start) where
-  abbrev soil : Soil (c .args .skeleton .points) (c .args .void .now) (c .args .stress .now) (c .args .conductivity-points) (c .args .conductivity-void .now) (c .args .conductivity .now)
+  abbrev soil : SoilSound (c .args .skeleton .points) (c .args .void .now) (c .args .stress .now) (c .args .conductivity-points) (c .args .conductivity-void .now) (c .args .conductivity .now)
   soil = c .pre .0
 
   abbrev on : OnSoil (c .args .skeleton .points) (c .args .void .now) (c .args .stress .now) (c .args .load .0) (c .args .burden) (c .args .solids) (c .args .water)

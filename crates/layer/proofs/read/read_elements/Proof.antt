@@ -2,25 +2,25 @@ use Prim.Native.Nat.{_-_, _≤_, _<_}
 use mathlib.Core.Path.{_≡_, sym, ap, _∙_}
 use Rattle.layer.proofs.SegmentsAt.{segments-none, segments-store}
 use Rattle.layer.specs.Segments.{Segments}
-use Rattle.layer.specs.Soil.{excessAt, resistanceAt}
+use Rattle.layer.specs.Held.{Held, heldOf, excessAt, resistanceAt}
 use Rattle.numbers.specs.Arrays.{filled}
 use Rattle.numbers.specs.Filled.{filled-zero, filled-store, filled-done}
 use Rattle.numbers.specs.Signed.{readBack}
-use Rattle.rules.specs.Curve.{points}
+use Rattle.rules.specs.Record.{soilOf}
 use Rattle.rules.specs.declared.quantities.Pressure.{Pressure}
 use native.Mathlib.Omega.{arith}
 use Rattle.layer.proofs.read.read_elements.Statement.{statement}
 use Rattle.layer.proofs.read.read_elements.Tie as tie
 
 abbrev Inv-loop : tie.InvT-loop
-Inv-loop count load burden solids water skeleton void stress n conductivity-void conductivity stress-segment₀ conductivity-segment₀ excess₀ resistance₀ j₀ stress-segment conductivity-segment excess resistance j =
-    (j ≤ count) × (excess ≡ filled excess₀ j (excessAt (points (skeleton .points) void stress) (load .0) burden solids water)) ×
-    (resistance ≡ filled resistance₀ j (resistanceAt (points n conductivity-void conductivity) solids water)) ×
-    Segments j (skeleton .points) stress-segment₀ stress-segment × Segments j n conductivity-segment₀ conductivity-segment
+Inv-loop elements load void stress conductivity-void conductivity burden solids water stress-segment₀ conductivity-segment₀ excess₀ resistance₀ points conductivity-points j₀ stress-segment conductivity-segment excess resistance j =
+    let h = heldOf (soilOf (record { compressibility = points; conductivity = conductivity-points }) void stress conductivity-void conductivity) elements (load .0) burden solids water in
+    (j ≤ elements) × (excess ≡ filled excess₀ j (excessAt h)) × (resistance ≡ filled resistance₀ j (resistanceAt h)) ×
+    Segments j points stress-segment₀ stress-segment × Segments j conductivity-points conductivity-segment₀ conductivity-segment
 
 abbrev μ-loop : tie.MeasureT-loop
-μ-loop count load burden solids water skeleton void stress n conductivity-void conductivity stress-segment₀ conductivity-segment₀ excess₀ resistance₀ j₀ stress-segment conductivity-segment excess resistance j =
-    count - j
+μ-loop elements load void stress conductivity-void conductivity burden solids water stress-segment₀ conductivity-segment₀ excess₀ resistance₀ points conductivity-points j₀ stress-segment conductivity-segment excess resistance j =
+    elements - j
 
 loop-holds : tie.Need-loop-holds Inv-loop μ-loop
 loop-holds c = (omega arith, sym (filled-zero _ _), sym (filled-zero _ _), segments-none, segments-none)
@@ -63,7 +63,7 @@ below c = (omega arith, c .before .before .before .before .before .before .befor
 read-element-requires : tie.Need-read-element-requires Inv-loop μ-loop
 read-element-requires c κs =
     let s = c .before .before .before .before .before .before .before in
-    (s .pre .1 .0, s .pre .1 .1 .0 (c .before .before .before .before .before .before .loop .j) (omega arith))
+    (s .pre .1 .0 .soil, s .pre .1 .0 .on-soil (c .before .before .before .before .before .before .loop .j) (omega arith))
 
 mul-pressure : tie.Need-mul-pressure Inv-loop μ-loop
 mul-pressure c = omega arith
@@ -101,7 +101,7 @@ loop-again c =
     let l = c .before .before .before .before .before .before .before .before in
     let read = c .before .read-element in
     let room = below (c .before .before) in
-    let long = s .pre .1 .1 .1 in (
+    let long = s .pre .1 .1 in (
       omega (arith, room),
       filled-store _ _ _ _ _ (omega (arith, room, long)) (l .loop .inv .1)
           (readBack {z = read .result .excess .0} (record { sfits = c .struct-told .given .0 .1 .1 .0 .1 }) ∙ ap (λ (p : Pressure). p .0) (read .ensures .0 .0)),

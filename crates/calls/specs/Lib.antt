@@ -1,3 +1,0 @@
--- What the contracts of the calls cite beside the rules.
-pub mod Answers
-pub mod Read

@@ -1,0 +1,3 @@
+-- What the contracts of a step cite beside the rules.
+pub mod Answers
+pub mod Read
