@@ -7,12 +7,13 @@ use borrow.Author.Tests.{leb-true, leb-false}
 use lib.ListN.{getD, drop}
 use mathlib.Core.Bool.{Bool, true, false, _&&_}
 use mathlib.Core.List.{List}
-use mathlib.Core.Path.{_≡_, refl}
+use mathlib.Core.Path.{_≡_, refl, sym, ap, _∙_}
 use Rattle.laws.specs.Segment.{spans-bounds, read-by-segment}
 use Rattle.numbers.specs.Filled.{length-tabulate, getD-tabulate}
 use Rattle.numbers.specs.Interpolation.{distance}
 use Rattle.numbers.specs.Searches.{passed}
 use Rattle.rules.specs.Curve.{point, points, spans, interpolated, curveAt}
+use Rattle.rules.specs.Quantities.{stressLimits, voidLimits}
 use Rattle.rules.specs.declared.quantities.CurveValue.the-variants.{On, Off}
 use Rattle.rules.proofs.Points.{at, from-segment, from-point, from-last, from-end}
 use Rattle.curves.specs.Smooth.{Smooth}
@@ -38,11 +39,22 @@ module _ (x0 x1 x : ℕ) where
   spans-near y0 y1 e = omega (arith, spans-bounds (point x0 y0) (point x1 y1) x (passed e))
 
 module _ (n : ℕ) (xs ys : List ℕ) (x i : ℕ) where
+  -- a segment that spans x may be interpolated on
+  pub interpolable : Smooth n xs ys → i + 1 < n → spans (at n xs ys i) (at n xs ys (i + 1)) x ≡ true →
+      ((0 < distance (getD xs i 0) (getD xs (i + 1) 0)) × (distance (getD xs i 0) x ≤ voidLimits .most)) ×
+      (((getD ys i 0 ≤ getD ys (i + 1) 0) × (getD ys (i + 1) 0 ≤ stressLimits .most)) ×
+      (distance (getD xs i 0) x ≤ distance (getD xs i 0) (getD xs (i + 1) 0)))
+  interpolable smooth h e =
+      let near = spans-near (getD xs i 0) (getD xs (i + 1) 0) x (getD ys i 0) (getD ys (i + 1) 0) e in (
+        (smooth .apart i h, omega (arith, smooth .abscissa-most i (omega arith), smooth .abscissa-most (i + 1) h)),
+        ((smooth .higher i h, smooth .ordinate-most (i + 1) h), near),
+      )
+
   -- the first segment from here spans x, or not, or there is none
-  pub read-here : i + 1 < n → spans (at n xs ys i) (at n xs ys (i + 1)) x ≡ true →
-      curveAt (drop i (points n xs ys)) x ≡ On (interpolated (at n xs ys i) (at n xs ys (i + 1)) x)
+  pub read-here : {y : ℕ} → i + 1 < n → spans (at n xs ys i) (at n xs ys (i + 1)) x ≡ true → y ≡ interpolated (at n xs ys i) (at n xs ys (i + 1)) x →
+      On y ≡ curveAt (drop i (points n xs ys)) x
   unfolding curveAt
-  read-here h e = rw (from-segment n xs ys i h, e, curveAt)
+  read-here h e is = rw (is, from-segment n xs ys i h, e, curveAt)
 
   pub read-on : i + 1 < n → spans (at n xs ys i) (at n xs ys (i + 1)) x ≡ false →
       curveAt (drop i (points n xs ys)) x ≡ curveAt (drop (i + 1) (points n xs ys)) x
@@ -58,12 +70,13 @@ module _ (n : ℕ) (xs ys : List ℕ) (x i : ℕ) where
       go false e = let k = leb-false n i e in rw (from-last n xs ys i (omega arith))
 
   -- any segment that spans x reads the curve
-  pub read-any : Smooth n xs ys → i + 1 < n → spans (at n xs ys i) (at n xs ys (i + 1)) x ≡ true →
-      curveAt (points n xs ys) x ≡ On (interpolated (at n xs ys i) (at n xs ys (i + 1)) x)
+  pub read-any : {y : ℕ} → Smooth n xs ys → i + 1 < n → spans (at n xs ys i) (at n xs ys (i + 1)) x ≡ true →
+      y ≡ interpolated (at n xs ys i) (at n xs ys (i + 1)) x → On y ≡ curveAt (points n xs ys) x
   unfolding points
-  read-any smooth h e =
+  read-any smooth h e is =
       let d = point 0 0 in
       let here : getD (points n xs ys) i d ≡ at n xs ys i = getD-tabulate n (at n xs ys) i d (omega arith) in
       let next : getD (points n xs ys) (suc i) d ≡ at n xs ys (i + 1) = rw (← add-one i) (getD-tabulate n (at n xs ys) (i + 1) d h) in
-      rw (here, next) at
-      (read-by-segment (points n xs ys) i d x (smooth .one-way) (rw (length-tabulate n (at n xs ys)) (omega arith)) (rw (here, next) (passed e)))
+      ap On is ∙
+      sym (rw (here, next) at
+      (read-by-segment (points n xs ys) i d x (smooth .one-way) (rw (length-tabulate n (at n xs ys)) (omega arith)) (rw (here, next) (passed e))))

@@ -42,9 +42,11 @@ pub fn read_from_first<'a>(count: usize, xs: &'a [u64; 64], ys: &'a [u64; 64], x
 {
     let mut i: usize = 0;
     while i + 1 < count {
-        if spans(xs[i], xs[i + 1], x) {
+        let x0 = xs[i];
+        let x1 = xs[i + 1];
+        if spans(x0, x1, x) {
             return Found {
-                value: CurveValue::On(interpolated(xs[i], ys[i], xs[i + 1], ys[i + 1], x)),
+                value: CurveValue::On(interpolated(x0, ys[i], x1, ys[i + 1], x)),
                 segment: i,
             };
         }
@@ -63,15 +65,11 @@ pub fn read<'a>(count: usize, xs: &'a [u64; 64], ys: &'a [u64; 64], x: u64, hint
     ensures { λ r. ⌜ (r .value ≡ curveAt (points count (now (xs .entry)) (now (ys .entry))) x) × (r .segment + 1 < count) ⌝ }
 {
     if hint < count - 1 {
-        if spans(xs[hint], xs[hint + 1], x) {
+        let x0 = xs[hint];
+        let x1 = xs[hint + 1];
+        if spans(x0, x1, x) {
             return Found {
-                value: CurveValue::On(interpolated(
-                    xs[hint],
-                    ys[hint],
-                    xs[hint + 1],
-                    ys[hint + 1],
-                    x,
-                )),
+                value: CurveValue::On(interpolated(x0, ys[hint], x1, ys[hint + 1], x)),
                 segment: hint,
             };
         }

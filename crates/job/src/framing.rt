@@ -9,6 +9,7 @@ ghost use Rattle.numbers.specs.Bytes.{field};
 ghost use Rattle.rules.specs.Job.{headerSound, headerLength, jobLength, marked};
 use crate::header;
 use crate::header::HEADER_LENGTH;
+use record_parts::form;
 use rules::answers::Refusal;
 use rules::job::Header;
 
@@ -38,7 +39,7 @@ pub fn header_outside(job: &[u8], header: Header) -> bool
     requires { ⌜ headerLength ≤ length (now job) ⌝ }
     ensures { λ r. ⌜ r ≡ (not (headerSound header) || not (eqb (field 2 14 (now (job .entry))) 0)) ⌝ }
 {
-    !header::header_sound(header) || encoding::field(job, 2, 14) != 0
+    !form::header_sound(header) || encoding::field(job, 2, 14) != 0
 }
 
 // Cause 4.

@@ -1,16 +1,10 @@
-// A job's header: what it says, its tests, and the job's length by its counts.
+// A job's header: its mark, what it says, and the job's length by its counts.
 ghost use lib.ListN.{length};
 ghost use mathlib.Core.Bool.{true};
 ghost use mathlib.Core.Path.{_≡_};
 ghost use Prim.Native.Nat.{_≤_};
 ghost use Rattle.rules.specs.Job.{described, headerSound, headerLength, jobLength, marked};
-ghost use Rattle.rules.specs.Record.{formSound};
 use rules::job::Header;
-use rules::quantities::CurvePoints;
-use rules::quantities::Elements;
-use rules::quantities::Flag;
-use rules::quantities::Gravity;
-use rules::quantities::TablePoints;
 
 pub const HEADER_LENGTH: usize = 48;
 
@@ -23,29 +17,6 @@ pub fn marked(job: &[u8]) -> bool
     ensures { λ r. ⌜ r ≡ marked (now (job .entry)) ⌝ }
 {
     (job[0] == b'L') & (job[1] == b'S') & (job[2] == b'C')
-}
-
-// Whether the numbers of a job's bytes 5 to 13 keep their limits.
-pub fn form_sound(
-    top: u8,
-    bottom: u8,
-    elements: usize,
-    compressibility_points: usize,
-    conductivity_points: usize,
-    table_points: usize,
-    start: u8,
-    gravity: u64,
-) -> bool
-    ensures { λ r. ⌜ r ≡ formSound top bottom elements «compressibility_points» «conductivity_points» «table_points» start gravity ⌝ }
-{
-    Flag::within(top as u64)
-        & Flag::within(bottom as u64)
-        & Elements::within(elements as u64)
-        & CurvePoints::within(compressibility_points as u64)
-        & CurvePoints::within(conductivity_points as u64)
-        & TablePoints::within(table_points as u64)
-        & Flag::within(start as u64)
-        & Gravity::within(gravity)
 }
 
 // The numbers of a job's header.
@@ -67,22 +38,6 @@ pub fn read_header(job: &[u8]) -> Header
         end: encoding::field(job, 8, 32),
         budget: encoding::field(job, 8, 40),
     }
-}
-
-// Cause 3, of a header: whether its numbers keep their limits.
-pub fn header_sound(header: Header) -> bool
-    ensures { λ r. ⌜ r ≡ headerSound header ⌝ }
-{
-    form_sound(
-        header.top,
-        header.bottom,
-        header.elements,
-        header.compressibility_points,
-        header.conductivity_points,
-        header.table_points,
-        header.start,
-        header.gravity,
-    )
 }
 
 // The length that the four counts of a header ask for.

@@ -10,7 +10,7 @@ use Rattle.laws.specs.Outflow.{HeldWithin}
 use Rattle.laws.specs.Spread.{Holds}
 use Rattle.numbers.specs.Equality.{eqℤ→eq}
 use Rattle.numbers.specs.Interval.{Within, intervals, within-pos, within-le, within-mul, within-cut}
-use Rattle.numbers.specs.Searches.{passed, both, is-true}
+use Rattle.numbers.specs.Searches.{passed, seven, is-true}
 use Rattle.numbers.specs.Signed.{one-sided, sub-parts}
 use Rattle.rules.specs.Curve.{points, compressibilitySound, conductivitySound}
 use Rattle.rules.specs.Layer.{topPressure, bottomPressure}
@@ -54,12 +54,7 @@ site-parts r e =
     let t = tableSound (site .loadTable) in
     let top = faceHolds (r .layer .frame .top) topPressure in
     let bottom = faceHolds (r .layer .frame .bottom) (bottomPressure (site .topLevel) (site .bottomLevel)) in
-    let (first6, at-bottom) = both (a && b && c && d && t && top) bottom (passed e) in
-    let (first5, at-top) = both (a && b && c && d && t) top first6 in
-    let (first4, tabled) = both (a && b && c && d) t first5 in
-    let (first3, conducting) = both (a && b && c) d first4 in
-    let (first2, compressing) = both (a && b) c first3 in
-    let (headed, sized) = both a b first2 in
+    let (headed, sized, compressing, conducting, tabled, at-top, at-bottom) = seven a b c d t top bottom (passed e) in
     record {
       header = is-true a headed;
       sizes = is-true b sized;

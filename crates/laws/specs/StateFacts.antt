@@ -9,7 +9,7 @@ use Rattle.laws.specs.Amid.{Between}
 use Rattle.numbers.specs.Equality.{eqℤ→eq}
 use Rattle.numbers.specs.Integers.{eqℤ}
 use Rattle.numbers.specs.Interval.{Within}
-use Rattle.numbers.specs.Searches.{passed, both, is-true}
+use Rattle.numbers.specs.Searches.{passed, seven, is-true}
 use Rattle.numbers.specs.Sums.{sum}
 use Rattle.rules.proofs.Limits.{within-parts}
 use Rattle.rules.specs.Quantities.{within, withinℤ, stressLimits, clockLimits, startingWaterLimits, outflowRate}
@@ -57,12 +57,7 @@ state-facts r e =
     let t = outflowWithin (s .topOutflow) (s .clock) in
     let u = outflowWithin (s .bottomOutflow) (s .clock) in
     let g = eqℤ (pos (r .layer .frame .«starting_water»)) (pos (sum (s .water)) +ℤ s .topOutflow +ℤ s .bottomOutflow) in
-    let (first6, balanced) = both (a && b && c && d && t && u) g (passed e) in
-    let (first5, bottom) = both (a && b && c && d && t) u first6 in
-    let (first4, top) = both (a && b && c && d) t first5 in
-    let (first3, starting) = both (a && b && c) d first4 in
-    let (first2, timed) = both (a && b) c first3 in
-    let (on, loaded) = both a b first2 in
+    let (on, loaded, timed, starting, top, bottom, balanced) = seven a b c d t u g (passed e) in
     record {
       on-curve = is-true a on;
       load-between = signed-between stressLimits (s .load) loaded;

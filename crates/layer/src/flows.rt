@@ -28,12 +28,13 @@ pub fn flows_above<'a>(
 {
     let mut j: usize = 0;
     while j + 1 < elements {
+        let next = j + 1;
         above[j] = element::flow(
-            excess[j] - excess[j + 1],
+            excess[j] - excess[next],
             t,
-            resistance[j] + resistance[j + 1],
+            resistance[j] + resistance[next],
         );
-        j += 1;
+        j = next;
     }
     above[j] = element::outward(top, excess[j], t, resistance[j]);
 }

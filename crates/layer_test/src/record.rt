@@ -4,15 +4,15 @@ ghost use mathlib.Core.Path.{_≡_};
 ghost use Prim.Native.Nat.{_≤_};
 ghost use Rattle.rules.specs.Curve.{points, compressibilitySound, conductivitySound};
 ghost use Rattle.rules.specs.Layer.{topPressure, bottomPressure};
-ghost use Rattle.rules.specs.Record.{formSound, faceNumber, faceHolds, siteSound, stateSound, isLayer};
+ghost use Rattle.rules.specs.Record.{formSound, faceNumber, faceHolds, outflowWithin, siteSound, stateSound, isLayer};
 ghost use mathlib.Core.Bool.{_&&_};
 ghost use Rattle.laws.specs.Amid.{Between};
-ghost use Rattle.rules.specs.Quantities.{levelLimits, curveLimits};
+ghost use Rattle.rules.specs.Quantities.{within, withinℤ, levelLimits, curveLimits, stressLimits, clockLimits, startingWaterLimits};
 ghost use lib.IntN.{pos};
-use job::header;
 use points::checks;
 use record_parts::balance;
 use record_parts::faces;
+use record_parts::form;
 use record_parts::sizes;
 use rules::quantities::Clock;
 use rules::quantities::Pressure;
@@ -20,6 +20,7 @@ use rules::quantities::StartingWater;
 use rules::quantities::TestedClock;
 use rules::record::CurveCounts;
 use rules::record::Frame;
+use rules::record::Progress;
 use rules::record::Record;
 use rules::record::Skeleton;
 
@@ -29,7 +30,7 @@ pub fn numbers_sound(counts: CurveCounts, frame: Frame) -> bool
 {
     let top = frame.top;
     let bottom = frame.bottom;
-    header::form_sound(
+    form::form_sound(
         faces::face_number(top),
         faces::face_number(bottom),
         frame.elements,
@@ -117,6 +118,23 @@ pub fn site_sound(r: Record) -> bool
     faces_sound(frame)
 }
 
+// Whether load, clock, outflows and starting water keep their limits.
+pub fn progress_sound(progress: Progress, starting: u64) -> bool
+    ensures { λ r. ⌜ r ≡ (withinℤ stressLimits (progress .load .0) && within clockLimits (progress .clock .0) && within startingWaterLimits starting && outflowWithin (progress .«top_outflow» .0) (progress .clock .0) && outflowWithin (progress .«bottom_outflow» .0) (progress .clock .0)) ⌝ }
+{
+    let load = progress.load;
+    let clock = progress.clock;
+    let top = progress.top_outflow;
+    let bottom = progress.bottom_outflow;
+    if !load.is_stress() {
+        return false;
+    }
+    let TestedClock::Within(now) = Clock::new(clock.0) else {
+        return false;
+    };
+    StartingWater::within(starting) & top.within(now) & bottom.within(now)
+}
+
 // Whether the state of a record with a sound site is sound.
 pub fn state_sound(r: Record) -> bool
     requires { ⌜ siteSound r ≡ true ⌝ }
@@ -126,11 +144,9 @@ pub fn state_sound(r: Record) -> bool
     let progress = r.layer.progress;
     let elements = frame.elements;
     let points = r.soil.counts.compressibility;
-    let load = progress.load;
-    let clock = progress.clock;
     let starting = frame.starting_water;
-    let top = progress.top_outflow;
-    let bottom = progress.bottom_outflow;
+    let top_outflow = progress.top_outflow;
+    let bottom_outflow = progress.bottom_outflow;
     if !start::all_on_curve(
         elements,
         &r.layer.solids,
@@ -141,23 +157,14 @@ pub fn state_sound(r: Record) -> bool
     ) {
         return false;
     }
-    if !load.is_stress() {
-        return false;
-    }
-    let TestedClock::Within(now) = Clock::new(clock.0) else {
-        return false;
-    };
-    if !StartingWater::within(starting) {
-        return false;
-    }
-    if !(top.within(now) & bottom.within(now)) {
+    if !progress_sound(progress, starting) {
         return false;
     }
     balance::balances(
         starting,
         balance::total_water(elements, &r.layer.water),
-        top,
-        bottom,
+        top_outflow,
+        bottom_outflow,
     )
 }
 

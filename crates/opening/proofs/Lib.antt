@@ -1,6 +1,2 @@
--- Laws of the tests of an opening, of its water and of its record.
-pub mod FieldLaws
-pub mod Checking
-pub mod Starting
-pub mod SoundDescription
+-- What is read of a job.
 pub mod Reading

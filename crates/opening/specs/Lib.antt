@@ -1,8 +1,4 @@
 -- What the contracts of an opening cite beside the rules; what a refused one leaves; and what an opened job says of its opening.
-pub mod Lent
-pub mod Causes
-pub mod Accepting
-pub mod AcceptingLaws
 pub mod Opened
 pub mod OpenedLaws
 pub mod Blank

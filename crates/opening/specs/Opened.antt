@@ -1,11 +1,11 @@
 -- What opening a job answers, and what it leaves in the arrays that it is lent.
 use Prim.Native.Nat.{ℕ}
 use mathlib.Core.List.{List}
+use Rattle.acceptance.specs.Accepting.{acceptedBurden}
+use Rattle.acceptance.specs.Lent.{descriptionOf}
 use Rattle.job.specs.Framing.{framing}
 use Rattle.job.specs.declared.framing.Framed.the-variants as framed
 use Rattle.numbers.specs.Arrays.{zeros}
-use Rattle.opening.specs.Accepting.{acceptedBurden}
-use Rattle.opening.specs.Lent.{descriptionOf}
 use Rattle.opening.specs.declared.Opened.{Opened}
 use Rattle.opening.specs.declared.Opened.the-variants.{Accepted, Refused}
 use Rattle.rules.specs.Job.{Description, described}

@@ -4,6 +4,9 @@ use native.Mathlib.Omega.{arith}
 use mathlib.Core.List.{List}
 use mathlib.Core.Option.{Option, none, some}
 use mathlib.Core.Path.{_≡_, refl, sym, ap, _∙_}
+use Rattle.acceptance.specs.Accepting.{waterStarted, acceptedBurden}
+use Rattle.acceptance.specs.AcceptingLaws.{accepted-none, cause-accepts, header-within, off-accepts, start-accepts}
+use Rattle.acceptance.specs.Lent.{descriptionOf}
 use Rattle.job.specs.Framing.{framing}
 use Rattle.job.specs.FramingLaws.{framed-header, framed-kept, framed-rest, unframed-first}
 use Rattle.job.specs.Pairs.{Blank, Pairs}
@@ -11,9 +14,6 @@ use Rattle.job.specs.declared.framing.Framed.{Framed}
 use Rattle.job.specs.declared.framing.Framed.the-variants as framed
 use Rattle.layer.specs.Weights.{burdenAt}
 use Rattle.numbers.specs.Arrays.{filled}
-use Rattle.opening.specs.Accepting.{waterStarted, acceptedBurden}
-use Rattle.opening.specs.AcceptingLaws.{accepted-none, cause-accepts, header-within, off-accepts, start-accepts}
-use Rattle.opening.specs.Lent.{descriptionOf}
 use Rattle.opening.specs.Opened.{openedBy, openedJob, leftDescription, leftBurden}
 use Rattle.opening.specs.declared.Opened.{Opened}
 use Rattle.opening.specs.declared.Opened.the-variants.{Accepted, Refused}

@@ -1,22 +1,15 @@
-// Opening: from a job's bytes, or from what they describe, to a record.
+// Opening: from a job's bytes to a record.
 ghost use lib.ListN.{length};
 ghost use mathlib.Core.Path.{_≡_};
 ghost use Rattle.job.specs.Pairs.{Blank, Pairs};
-ghost use Rattle.opening.specs.Accepting.{acceptedBurden};
-ghost use Rattle.opening.specs.Lent.{descriptionOf};
 ghost use Rattle.opening.specs.Opened.{openedJob, leftDescription, leftBurden};
-ghost use Rattle.rules.specs.Job.{Description};
-ghost use Rattle.rules.specs.Opening.{opening, openingNumbers, refusedOpening, accepted, acceptanceNumber, acceptedNumber, acceptedWater};
+ghost use Rattle.rules.specs.Opening.{opening, openingNumbers, refusedOpening};
 ghost use Rattle.rules.specs.Outcome.{answerNumbers};
 ghost use Rattle.rules.specs.Record.{recordOf};
 ghost use Rattle.rules.specs.declared.answers.Answer.the-variants.{Done};
-use crate::causes::Checked;
 use job::framing;
 use job::framing::Framed;
-use job::header;
 use job::pairs;
-use layer::weights;
-use record_parts::balance;
 use rules::answers::Acceptance;
 use rules::answers::Answer;
 use rules::answers::Answered;
@@ -26,83 +19,14 @@ use rules::record::Frame;
 use rules::record::Layer;
 use rules::record::Progress;
 use rules::record::Record;
-use rules::record::Skeleton;
 use rules::record::Soil;
 
-pub mod causes;
-pub mod fields;
 pub mod record;
-pub mod starts;
 
 // What an opened job gives beside its arrays: its header and the numbers of its layer, or a refusal.
 pub enum Opened {
     Accepted(Header, Frame, Progress),
     Refused(Refusal),
-}
-
-// From a description to the numbers of its layer: the causes 3 and 5 to 9, in their order. An accepted one has the water of its
-// start put in place of the water that is given, and its burdens worked out.
-pub fn accept<'a>(
-    header: Header,
-    void: &'a [u64; 64],
-    stress: &'a [u64; 64],
-    conductivity_void: &'a [u64; 64],
-    conductivity: &'a [u64; 64],
-    solids: &'a [u64; 128],
-    water: &mut [u64; 128],
-    table_time: &'a [u64; 64],
-    table_load: &'a [u64; 64],
-    burden: &mut [u64; 128],
-) -> Acceptance
-    ghost { Description }
-    requires { λ d. ⌜ descriptionOf header (now void) (now stress) (now «conductivity_void») (now conductivity) (now solids) (now water) (now «table_time») (now «table_load») ≡ d ⌝ }
-    requires { λ _. ⌜ (length (now water) ≡ 128) × (length (now burden) ≡ 128) ⌝ }
-    ensures { λ d r. ⌜ r ≡ accepted d ⌝ }
-    ensures { λ d _. ⌜ now (water .exit) ≡ acceptedWater d ⌝ }
-    ensures { λ d _. ⌜ now (burden .exit) ≡ acceptedBurden d (now (burden .entry)) ⌝ }
-    ensures { λ d r. ⌜ acceptanceNumber r ≡ acceptedNumber d ⌝ }
-{
-    if !header::header_sound(header) {
-        return Acceptance::Refused(Refusal::HeaderOutside);
-    }
-    let checked = causes::described_cause(
-        header,
-        void,
-        stress,
-        conductivity_void,
-        conductivity,
-        solids,
-        water,
-        table_time,
-        table_load,
-    );
-    match checked {
-        Checked::Refused(cause) => Acceptance::Refused(cause),
-        Checked::Sound(top_level, bottom_level) => {
-            let elements = header.elements;
-            weights::burdens(elements, header.gravity, solids, burden);
-            let points = header.compressibility_points;
-            let load = table_load[0];
-            if !starts::start_water(
-                header.start,
-                elements,
-                load,
-                burden,
-                solids,
-                Skeleton { points },
-                void,
-                stress,
-                water,
-            ) {
-                return Acceptance::Refused(Refusal::StartOffCurve);
-            }
-            let starting = balance::total_water(elements, water);
-            Acceptance::Accepted(
-                record::frame(header, top_level, bottom_level, starting),
-                record::opening_progress(load),
-            )
-        }
-    }
 }
 
 // Opens a job, whatever its bytes, into arrays of zeros.
@@ -140,7 +64,7 @@ pub fn open_into<'a>(
                 table_time,
                 table_load,
             );
-            let accepted = accept(
+            let accepted = acceptance::accept(
                 header,
                 void,
                 stress,

@@ -1,4 +1,5 @@
-// What a record holds: its faces, its sizes, and its balance of water.
+// What a record holds: its form, its faces, its sizes, and its balance of water.
 pub mod balance;
 pub mod faces;
+pub mod form;
 pub mod sizes;

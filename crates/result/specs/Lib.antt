@@ -1,5 +1,2 @@
--- What the contracts of the result cite beside the rules, and its laws.
-pub mod Elements
-pub mod HeadLaws
-pub mod Ranges
+-- The laws of a result.
 pub mod ResultLaws

@@ -19,8 +19,8 @@ use Rattle.numbers.specs.Filled.{tabulated, getD-filled, first-length}
 use Rattle.numbers.specs.Integers.{up}
 use Rattle.numbers.specs.Signed.{signed, sub-parts}
 use Rattle.numbers.specs.Sums.{sum}
-use Rattle.result.specs.Elements.{elements-length}
-use Rattle.result.specs.HeadLaws.{length-head}
+use Rattle.result_fields.specs.Elements.{elements-length}
+use Rattle.result_fields.specs.HeadLaws.{length-head}
 use Rattle.rules.specs.Curve.{points}
 use Rattle.rules.specs.Layer.{skeletonOf, burdens}
 use Rattle.rules.specs.Record.{recordSite, recordState, isLayer}

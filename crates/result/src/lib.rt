@@ -12,6 +12,8 @@ ghost use Rattle.rules.specs.Result.{resultBytes, resultSize, result};
 ghost use Rattle.rules.specs.declared.record.Record.{Record};
 use layer::weights;
 use record_parts::balance;
+use result_fields::head;
+use result_fields::node;
 use rules::answers::Ended;
 use rules::answers::Refusal;
 use rules::answers::Stop;
@@ -19,9 +21,6 @@ use rules::record::CurveCounts;
 use rules::record::Frame;
 use rules::record::Record;
 use rules::record::Skeleton;
-
-pub mod head;
-pub mod node;
 
 // The number returned where the key is withheld for a cause.
 pub fn refused(cause: Refusal) -> u32

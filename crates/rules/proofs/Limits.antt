@@ -1,5 +1,5 @@
 -- The limits of a kind, as tests of them say.
-use Prim.Native.Nat.{ℕ, zero, suc, _≤_, _<_}
+use Prim.Native.Nat.{ℕ, zero, suc, _≤_, _<_, _^_}
 use native.Mathlib.Omega.{arith}
 use lib.Dec.{T, leb, eqb, leb→le}
 use borrow.Author.Tests.{le-leb, lt-leb, ne-eqb}
@@ -7,7 +7,7 @@ use mathlib.Core.Bool.{Bool, true, false}
 use mathlib.Core.Path.{_≡_, refl, sym, _∙_}
 use lib.IntN.{ℤ, pos, negsuc, natAbs}
 use lib.Signed.{_≤ℤ_, _<ℤ_}
-use Rattle.numbers.specs.Searches.{both}
+use Rattle.numbers.specs.Searches.{both, passed}
 use Rattle.numbers.specs.Signed.{signed}
 use Rattle.rules.specs.Quantities.{Limits, within, withinℤ, from_to_, stressLimits, voidLimits, levelLimits, clockLimits, head, pressure}
 use Rattle.rules.specs.Tested.{tested, testedHead, testedPressure, testedVoid, testedClock}
@@ -34,6 +34,10 @@ module _ (limits : Limits) (n : ℕ) where
   within-parts t =
       let (l, m) = both (leb (limits .least) n) (leb n (limits .most)) t in
       (leb→le (limits .least) n l, leb→le n (limits .most) m)
+
+  -- a number within limits below 2^63 fits a signed one
+  pub kept-small : limits .most < 2 ^ 63 → within limits n ≡ true → n < 2 ^ 63
+  kept-small few e = omega (arith, within-parts (passed e))
 
 -- 0 alone keeps the limits from 0 to 0
 pub only-zero : (n : ℕ) → eqb n 0 ≡ within (from 0 to 0) n

@@ -3,6 +3,7 @@ ghost use lib.ListN.{length};
 ghost use mathlib.Core.Bool.{true};
 ghost use mathlib.Core.Path.{_≡_};
 ghost use Prim.Native.Nat.{ℕ, _+_, _*_, _≤_};
+ghost use Rattle.numbers.specs.Bytes.{field, signedNumber};
 ghost use Rattle.rules.specs.Job.{firsts};
 ghost use Rattle.transcript.specs.Input.{faceIn, firstCurveAt, secondCurveAt, tableAt, isRecord, soilIn, frameIn, progressIn, layerIn, recordIn};
 use rules::quantities::Clock;
@@ -25,6 +26,14 @@ fn face(kind: u64, held: u64) -> Face
         return Face::Closed;
     }
     Face::Drained(Pressure(encoding::signed_number(held)))
+}
+
+// A signed field of 8 bytes.
+fn signed_field(body: &[u8], offset: usize) -> i64
+    requires { ⌜ offset + 8 ≤ length (now body) ⌝ }
+    ensures { λ r. ⌜ r ≡ signedNumber (field 8 offset (now (body .entry))) ⌝ }
+{
+    encoding::signed_number(encoding::field(body, 8, offset))
 }
 
 // The first fields of so many pairs that begin at an offset, in an array for the elements. The second fields begin 8 bytes on.
@@ -136,8 +145,8 @@ fn frame(body: &[u8]) -> Frame
         elements: encoding::field(body, 8, 0) as usize,
         table_points: encoding::field(body, 8, 24) as usize,
         gravity: encoding::field(body, 8, 32),
-        top_level: Head(encoding::signed_number(encoding::field(body, 8, 72))),
-        bottom_level: Head(encoding::signed_number(encoding::field(body, 8, 80))),
+        top_level: Head(signed_field(body, 72)),
+        bottom_level: Head(signed_field(body, 80)),
         starting_water: encoding::field(body, 8, 120),
     }
 }
@@ -148,10 +157,10 @@ fn progress(body: &[u8]) -> Progress
     ensures { λ r. ⌜ r ≡ progressIn (now (body .entry)) ⌝ }
 {
     Progress {
-        load: Pressure(encoding::signed_number(encoding::field(body, 8, 88))),
+        load: Pressure(signed_field(body, 88)),
         clock: Clock(encoding::field(body, 8, 96)),
-        top_outflow: Outflow(encoding::signed_number(encoding::field(body, 8, 104))),
-        bottom_outflow: Outflow(encoding::signed_number(encoding::field(body, 8, 112))),
+        top_outflow: Outflow(signed_field(body, 104)),
+        bottom_outflow: Outflow(signed_field(body, 112)),
     }
 }
 

@@ -3,13 +3,13 @@ use Prim.Native.Nat.{ℕ}
 use lib.ListN.{length}
 use mathlib.Core.List.{List}
 use mathlib.Core.Path.{_≡_, sym, ap, _∙_}
+use Rattle.acceptance.specs.Accepting.{acceptedBurden}
+use Rattle.acceptance.specs.Lent.{descriptionOf}
 use Rattle.job.specs.Framing.{framing}
 use Rattle.job.specs.FramingLaws.{framed-header, framed-kept, framed-length}
 use Rattle.job.specs.Pairs.{Pairs}
 use Rattle.job.specs.declared.framing.Framed.the-variants as framed
 use Rattle.opening.proofs.Reading.{lent-described, water-long}
-use Rattle.opening.specs.Accepting.{acceptedBurden}
-use Rattle.opening.specs.Lent.{descriptionOf}
 use Rattle.opening.specs.Opened.{openedBy, openedJob, leftDescription, leftBurden}
 use Rattle.opening.specs.OpenedLaws.{unframed-opened, unframed-pairs, unframed-burden, framed-opened, framed-pairs, framed-burden}
 use Rattle.rules.specs.Job.{Description, described}

@@ -1,9 +1,8 @@
-use Prim.Native.Nat.{_+_, _-_, _<_}
+use Prim.Native.Nat.{_-_, _<_}
 use lib.ListN.{drop}
-use mathlib.Core.Path.{_≡_, refl, sym, ap, _∙_}
+use mathlib.Core.Path.{_≡_, refl, sym, _∙_}
 use Rattle.rules.specs.Curve.{points, spans, curveAt}
-use Rattle.rules.specs.declared.quantities.CurveValue.the-variants.{On}
-use Rattle.curves.proofs.Segments.{spans-near, read-here, read-on, read-end}
+use Rattle.curves.proofs.Segments.{interpolable, read-here, read-on, read-end}
 use native.Mathlib.Omega.{arith}
 use borrow.Author.Needs.{needs}
 use Rattle.curves.proofs.reading.read_from_first.Statement.{statement}
@@ -21,20 +20,20 @@ loop-holds c = (omega arith, refl)
 add-loop : tie.Need-add-loop Inv-loop μ-loop
 add-loop c = omega arith
 
-mul-spans : tie.Need-mul-spans Inv-loop μ-loop
-mul-spans c = omega arith
+mul-x0 : tie.Need-mul-x0 Inv-loop μ-loop
+mul-x0 c = omega arith
 
-element-copy-out-spans : tie.Need-element-copy-out-spans Inv-loop μ-loop
-element-copy-out-spans c = omega arith
+element-copy-out-x0 : tie.Need-element-copy-out-x0 Inv-loop μ-loop
+element-copy-out-x0 c = omega arith
 
-add-spans : tie.Need-add-spans Inv-loop μ-loop
-add-spans c = omega arith
+add-x1 : tie.Need-add-x1 Inv-loop μ-loop
+add-x1 c = omega arith
 
-mul-spans-2 : tie.Need-mul-spans-2 Inv-loop μ-loop
-mul-spans-2 c = omega arith
+mul-x1 : tie.Need-mul-x1 Inv-loop μ-loop
+mul-x1 c = omega arith
 
-element-copy-out-spans-2 : tie.Need-element-copy-out-spans-2 Inv-loop μ-loop
-element-copy-out-spans-2 c = omega arith
+element-copy-out-x1 : tie.Need-element-copy-out-x1 Inv-loop μ-loop
+element-copy-out-x1 c = omega arith
 
 spans-requires : tie.Need-spans-requires Inv-loop μ-loop
 spans-requires c κs = search needs
@@ -45,53 +44,29 @@ mul-interpolated c = omega arith
 element-copy-out-interpolated : tie.Need-element-copy-out-interpolated Inv-loop μ-loop
 element-copy-out-interpolated c = omega arith
 
+add-interpolated : tie.Need-add-interpolated Inv-loop μ-loop
+add-interpolated c = omega arith
+
 mul-interpolated-2 : tie.Need-mul-interpolated-2 Inv-loop μ-loop
 mul-interpolated-2 c = omega arith
 
 element-copy-out-interpolated-2 : tie.Need-element-copy-out-interpolated-2 Inv-loop μ-loop
 element-copy-out-interpolated-2 c = omega arith
 
-add-interpolated : tie.Need-add-interpolated Inv-loop μ-loop
-add-interpolated c = omega arith
-
-mul-interpolated-3 : tie.Need-mul-interpolated-3 Inv-loop μ-loop
-mul-interpolated-3 c = omega arith
-
-element-copy-out-interpolated-3 : tie.Need-element-copy-out-interpolated-3 Inv-loop μ-loop
-element-copy-out-interpolated-3 c = omega arith
-
-add-interpolated-2 : tie.Need-add-interpolated-2 Inv-loop μ-loop
-add-interpolated-2 c = omega arith
-
-mul-interpolated-4 : tie.Need-mul-interpolated-4 Inv-loop μ-loop
-mul-interpolated-4 c = omega arith
-
-element-copy-out-interpolated-4 : tie.Need-element-copy-out-interpolated-4 Inv-loop μ-loop
-element-copy-out-interpolated-4 c = omega arith
-
 interpolated-requires : tie.Need-interpolated-requires Inv-loop μ-loop
 interpolated-requires c κs =
-    let l = c .before .before .before .before .before .before .before .before .before in
+    let t = c .before .before .before in
+    let l = t .before .before .before .before in
     let s = l .before in
-    let i = l .loop .i in
-    let k = s .pre .1 in
-    let on = sym (c .before .before .before .before .before .spans .ensures 0 0) ∙ c .before .before .before .before .if1 .taken in
-    omega (
-      arith,
-      k .apart i (omega arith),
-      k .higher i (omega arith),
-      k .abscissa-most i (omega arith),
-      k .abscissa-most (i + 1) (omega arith),
-      k .ordinate-most (i + 1) (omega arith),
-      spans-near _ _ _ 0 0 on,
-    )
+    interpolable _ _ _ (s .args .x) (l .loop .i) (s .pre .1) (omega arith) (sym (t .spans .ensures _ _) ∙ c .before .before .if1 .taken)
 
 returns : tie.Need-returns Inv-loop μ-loop
 returns c =
-    let l = c .before .before .before .before .before .before .before .before .before .before in
+    let t = c .before .before .before .before in
+    let l = t .before .before .before .before in
     let s = l .before in
-    let on = sym (c .before .before .before .before .before .before .spans .ensures _ _) ∙ c .before .before .before .before .before .if1 .taken in
-    (ap On (c .interpolated .ensures) ∙ sym (read-here _ _ _ (s .args .x) (l .loop .i) (omega arith) on) ∙ l .loop .inv .1, omega arith)
+    let on = sym (t .spans .ensures _ _) ∙ c .before .before .before .if1 .taken in
+    (read-here _ _ _ (s .args .x) (l .loop .i) (omega arith) on (c .interpolated .ensures) ∙ l .loop .inv .1, omega arith)
 
 add-i : tie.Need-add-i Inv-loop μ-loop
 add-i c = omega arith
@@ -119,22 +94,17 @@ read-from-first-spec =
     μ-loop
     loop-holds
     add-loop
-    mul-spans
-    element-copy-out-spans
-    add-spans
-    mul-spans-2
-    element-copy-out-spans-2
+    mul-x0
+    element-copy-out-x0
+    add-x1
+    mul-x1
+    element-copy-out-x1
     spans-requires
     mul-interpolated
     element-copy-out-interpolated
+    add-interpolated
     mul-interpolated-2
     element-copy-out-interpolated-2
-    add-interpolated
-    mul-interpolated-3
-    element-copy-out-interpolated-3
-    add-interpolated-2
-    mul-interpolated-4
-    element-copy-out-interpolated-4
     interpolated-requires
     returns
     add-i

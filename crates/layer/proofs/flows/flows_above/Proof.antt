@@ -70,14 +70,14 @@ loop-holds c = (search needs, sym (filled-zero _ _))
 add-loop : tie.Need-add-loop Inv-loop μ-loop
 add-loop c = omega arith
 
+add-next : tie.Need-add-next Inv-loop μ-loop
+add-next c = omega arith
+
 mul-flow : tie.Need-mul-flow Inv-loop μ-loop
 mul-flow c = omega arith
 
 element-copy-out-flow : tie.Need-element-copy-out-flow Inv-loop μ-loop
 element-copy-out-flow c = omega arith
-
-add-flow : tie.Need-add-flow Inv-loop μ-loop
-add-flow c = omega arith
 
 mul-flow-2 : tie.Need-mul-flow-2 Inv-loop μ-loop
 mul-flow-2 c = omega arith
@@ -96,17 +96,14 @@ mul-flow-3 c = omega arith
 element-copy-out-flow-3 : tie.Need-element-copy-out-flow-3 Inv-loop μ-loop
 element-copy-out-flow-3 c = omega arith
 
-add-flow-2 : tie.Need-add-flow-2 Inv-loop μ-loop
-add-flow-2 c = omega arith
-
 mul-flow-4 : tie.Need-mul-flow-4 Inv-loop μ-loop
 mul-flow-4 c = omega arith
 
 element-copy-out-flow-4 : tie.Need-element-copy-out-flow-4 Inv-loop μ-loop
 element-copy-out-flow-4 c = omega arith
 
-add-flow-3 : tie.Need-add-flow-3 Inv-loop μ-loop
-add-flow-3 c = omega (arith, sum-within (c .before .before .before .before .before) (omega arith))
+add-flow : tie.Need-add-flow Inv-loop μ-loop
+add-flow c = omega (arith, sum-within (c .before .before .before .before .before) (omega arith))
 
 flow-requires : tie.Need-flow-requires Inv-loop μ-loop
 flow-requires c κs =
@@ -114,14 +111,11 @@ flow-requires c κs =
     simp (readBack (p-fits l (j l) (omega arith)), readBack (p-fits l (j l + 1) (omega arith)), readBack (difference-fits l (omega arith)))
     (difference l (omega arith), (s l .pre .1 .1 .0, sum-within l (omega arith)))
 
-mul-t30 : tie.Need-mul-t30 Inv-loop μ-loop
-mul-t30 c = omega arith
+mul-t29 : tie.Need-mul-t29 Inv-loop μ-loop
+mul-t29 c = omega arith
 
 element-set-from-above : tie.Need-element-set-from-above Inv-loop μ-loop
 element-set-from-above c = omega arith
-
-add-j : tie.Need-add-j Inv-loop μ-loop
-add-j c = omega arith
 
 loop-less : tie.Need-loop-less Inv-loop μ-loop
 loop-less c = omega arith
@@ -158,8 +152,8 @@ outward-requires c κs =
       ),
     )
 
-mul-t42 : tie.Need-mul-t42 Inv-loop μ-loop
-mul-t42 c = omega arith
+mul-t41 : tie.Need-mul-t41 Inv-loop μ-loop
+mul-t41 c = omega arith
 
 element-set-from-above-2 : tie.Need-element-set-from-above-2 Inv-loop μ-loop
 element-set-from-above-2 c = omega arith
@@ -179,22 +173,20 @@ flows-above-spec =
     μ-loop
     loop-holds
     add-loop
+    add-next
     mul-flow
     element-copy-out-flow
-    add-flow
     mul-flow-2
     element-copy-out-flow-2
     sub-flow
     mul-flow-3
     element-copy-out-flow-3
-    add-flow-2
     mul-flow-4
     element-copy-out-flow-4
-    add-flow-3
+    add-flow
     flow-requires
-    mul-t30
+    mul-t29
     element-set-from-above
-    add-j
     loop-less
     loop-again
     mul-outward
@@ -202,6 +194,6 @@ flows-above-spec =
     mul-outward-2
     element-copy-out-outward-2
     outward-requires
-    mul-t42
+    mul-t41
     element-set-from-above-2
     returns)

@@ -31,29 +31,21 @@ field-requires-6 c κs = search needs
 field-requires-7 : tie.Need-field-requires-7
 field-requires-7 c κs = search needs
 
+signed-field-requires : tie.Need-signed-field-requires
+signed-field-requires c κs = search needs
+
+signed-field-requires-2 : tie.Need-signed-field-requires-2
+signed-field-requires-2 c κs = search needs
+
 field-requires-8 : tie.Need-field-requires-8
 field-requires-8 c κs = search needs
-
-signed-number-requires : tie.Need-signed-number-requires
-signed-number-requires c κs = search needs
-
-field-requires-9 : tie.Need-field-requires-9
-field-requires-9 c κs = search needs
-
-signed-number-requires-2 : tie.Need-signed-number-requires-2
-signed-number-requires-2 c κs = search needs
-
-field-requires-10 : tie.Need-field-requires-10
-field-requires-10 c κs = search needs
 
 returns : tie.Need-returns
 unfolding frameIn
 returns c =
     let bottom-level = c .before in
-    let bottom-word = bottom-level .before in
-    let top-level = bottom-word .before in
-    let top-word = top-level .before in
-    let gravity = top-word .before in
+    let top-level = bottom-level .before in
+    let gravity = top-level .before in
     let points = gravity .before in
     let elements = points .before in
     let bottom = elements .before in
@@ -65,8 +57,6 @@ returns c =
     simp (
       top .face .ensures,
       bottom .face2 .ensures,
-      top-level .signed-number .ensures,
-      bottom-level .signed-number2 .ensures,
       top-kind .field .ensures,
       top-held .field2 .ensures,
       bottom-kind .field3 .ensures,
@@ -74,9 +64,9 @@ returns c =
       elements .field5 .ensures,
       points .field6 .ensures,
       gravity .field7 .ensures,
-      top-word .field8 .ensures,
-      bottom-word .field9 .ensures,
-      c .field10 .ensures,
+      top-level .signed-field .ensures,
+      bottom-level .signed-field2 .ensures,
+      c .field8 .ensures,
       back,
     )
 
@@ -93,9 +83,7 @@ frame-spec =
     field-requires-5
     field-requires-6
     field-requires-7
+    signed-field-requires
+    signed-field-requires-2
     field-requires-8
-    signed-number-requires
-    field-requires-9
-    signed-number-requires-2
-    field-requires-10
     returns)

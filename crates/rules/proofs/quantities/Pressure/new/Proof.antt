@@ -1,30 +1,24 @@
-use Prim.Native.Nat.{_<_, _^_}
 use native.Mathlib.Omega.{arith}
 use borrow.Author.Needs.{needs}
 use mathlib.Core.Bool.{true}
 use mathlib.Core.Path.{_≡_, sym, _∙_}
-use Rattle.numbers.specs.Searches.{passed}
 use Rattle.numbers.specs.Signed.{signed, readUnsigned}
 use Rattle.rules.specs.Quantities.{within, stressLimits}
-use Rattle.rules.proofs.Limits.{within-parts, tested-kept, tested-outside}
+use Rattle.rules.proofs.Limits.{kept-small, tested-kept, tested-outside}
 use Rattle.rules.proofs.quantities.Pressure.new.Statement.{statement}
 use Rattle.rules.proofs.quantities.Pressure.new.Tie as tie
 
-module _ (c : tie.Then1) where
-  kept : within stressLimits (c .before .before .args .stress) ≡ true
-  kept = sym (c .before .within .ensures) ∙ c .if1 .taken
-
-  small : c .before .before .args .stress < 2 ^ 63
-  small = omega (arith, within-parts stressLimits (c .before .before .args .stress) (passed kept))
+kept : (c : tie.Then1) → within stressLimits (c .before .before .args .stress) ≡ true
+kept c = sym (c .before .within .ensures) ∙ c .if1 .taken
 
 within-requires : tie.Need-within-requires
 within-requires c κs = search needs
 
 cast-t4 : tie.Need-cast-t4
-cast-t4 c = let h = small c in omega signed
+cast-t4 c = let h = kept-small stressLimits _ (omega arith) (kept c) in omega signed
 
 returns : tie.Need-returns
-returns c = rw (readUnsigned (c .before .before .args .stress) (small c)) (tested-kept stressLimits _ _ _ (kept c))
+returns c = rw (readUnsigned _ (kept-small stressLimits _ (omega arith) (kept c))) (tested-kept stressLimits _ _ _ (kept c))
 
 returns-2 : tie.Need-returns-2
 returns-2 c = tested-outside stressLimits _ _ _ (sym (c .before .within .ensures) ∙ c .if1 .left)

@@ -1,0 +1,112 @@
+-- Cause 5 of a description: its answer test by test, and what the answer tells.
+use Prim.Native.Nat.{ℕ}
+use lib.Dec.{eqb}
+use lib.IntN.{pos}
+use mathlib.Core.Bool.{Bool, true, false, not, _&&_, _||_}
+use mathlib.Core.List.{List, [], _∷_}
+use mathlib.Core.Path.{_≡_, refl}
+use Rattle.acceptance.specs.Causes.{fieldsAnswer}
+use Rattle.acceptance.specs.declared.fields.Fields.{Fields}
+use Rattle.acceptance.specs.declared.fields.Fields.the-variants.{Within, Outside}
+use Rattle.numbers.specs.Arrays.{firstPlaces}
+use Rattle.numbers.specs.Lists.{all}
+use Rattle.rules.proofs.Limits.{only-zero}
+use Rattle.rules.specs.Job.{Description, fieldsSound, givenWater, jobSite, numberedFace}
+use Rattle.rules.specs.Quantities.{within, withinℤ, levelLimits, solidsLimits, waterLimits, clockLimits, budgetLimits, from_to_, head}
+use Rattle.rules.specs.Record.{sizesSound, closedAtZero}
+use Rattle.rules.specs.declared.quantities.Face.the-variants.{Closed, Drained}
+use Rattle.rules.specs.declared.quantities.Pressure.{Pressure}
+
+all-zero : (l : List ℕ) → all (λ w. eqb w 0) l ≡ all (within (from 0 to 0)) l
+unfolding all
+all-zero [] = refl
+all-zero (n ∷ l) = rw (only-zero n, all-zero l)
+
+-- a closed bottom has level 0, by the numbers of both
+closed-by : (number level : ℕ) (held : Pressure) → closedAtZero (numberedFace number held) (pos level) ≡ (not (eqb number 0) || eqb level 0)
+unfolding closedAtZero numberedFace
+closed-by number level held = go (eqb number 0)
+  where
+    go : (closed : Bool) → closedAtZero (elim closed [ true ↦ Closed | false ↦ Drained held ]) (pos level) ≡ (not closed || eqb level 0)
+    go true = refl
+    go false = refl
+
+-- the second and the third of three tests exchanged
+exchanged : (a b c : Bool) → (a && b && c) ≡ (a && c && b)
+exchanged true true true = refl
+exchanged true true false = refl
+exchanged true false true = refl
+exchanged true false false = refl
+exchanged false b c = refl
+
+-- five tests after another
+grouped : (a b c d e f : Bool) → (a && b && c && d && e && f) ≡ (a && (b && c && d && e && f))
+grouped true b c d e f = refl
+grouped false b c d e f = refl
+
+-- eight tests, the sixth put third
+reordered : (top bottom closed solid wet ended budgeted given : Bool) →
+    (top && bottom && closed && solid && wet && ended && budgeted && given) ≡
+    (top && bottom && ended && (closed && solid && wet && budgeted && given))
+reordered top bottom closed solid wet ended budgeted given =
+    rw (
+      exchanged (top && bottom && closed && solid) wet ended,
+      exchanged (top && bottom && closed) solid ended,
+      exchanged (top && bottom) closed ended,
+    )
+    (grouped (top && bottom && ended) closed solid wet budgeted given)
+
+module _ (d : Description) where
+  -- the tests but those of levels and end
+  abbrev pub others : Bool
+  others =
+      (not (eqb d.header.bottom 0) || eqb (d .header .«bottom_level») 0) &&
+      all (within solidsLimits) (firstPlaces d.header.elements d.solids) && all (within waterLimits) (firstPlaces d.header.elements d.water) &&
+      within budgetLimits d.header.budget && (eqb d.header.start 0 || all (within (from 0 to 0)) (firstPlaces d.header.elements d.water))
+
+  -- as they are tested
+  pub others-by : {solid wet budgeted dry rest : Bool} → solid ≡ all (within solidsLimits) (firstPlaces d.header.elements d.solids) →
+      wet ≡ all (within waterLimits) (firstPlaces d.header.elements d.water) → budgeted ≡ within budgetLimits d.header.budget →
+      dry ≡ all (within (from 0 to 0)) (firstPlaces d.header.elements d.water) →
+      ((not (eqb d.header.bottom 0) || eqb (d .header .«bottom_level») 0) && solid && wet && budgeted && (eqb d.header.start 0 || dry)) ≡ rest →
+      others ≡ rest
+  others-by e₁ e₂ e₃ e₄ e = rw (← e₁, ← e₂, ← e₃, ← e₄) e
+
+  fields-by : fieldsSound d ≡ (within levelLimits (d .header .«top_level») && within levelLimits (d .header .«bottom_level») && within clockLimits d.header.end && others)
+  unfolding fieldsSound sizesSound jobSite givenWater withinℤ
+  fields-by =
+      rw (closed-by, all-zero)
+      (reordered (within levelLimits (d .header .«top_level»)) (within levelLimits (d .header .«bottom_level»))
+      (not (eqb d.header.bottom 0) || eqb (d .header .«bottom_level») 0) (all (within solidsLimits) (firstPlaces d.header.elements d.solids))
+      (all (within waterLimits) (firstPlaces d.header.elements d.water)) (within clockLimits d.header.end)
+      (within budgetLimits d.header.budget) (eqb d.header.start 0 || all (within (from 0 to 0)) (firstPlaces d.header.elements d.water)))
+
+  -- the answer by the tests
+  pub fields-answer : {top bottom ended rest : Bool} → within levelLimits (d .header .«top_level») ≡ top →
+      within levelLimits (d .header .«bottom_level») ≡ bottom → within clockLimits d.header.end ≡ ended → others ≡ rest →
+      fieldsAnswer d ≡
+      elim (top && bottom && ended && rest) [
+        | true ↦ Within (head (pos (d .header .«top_level»))) (head (pos (d .header .«bottom_level»)))
+        | false ↦ Outside
+      ]
+  unfolding fieldsAnswer
+  fields-answer e₁ e₂ e₃ e₄ = rw (fields-by, e₁, e₂, e₃, e₄, fieldsAnswer)
+
+  -- what an answer tells
+  abbrev pub FieldsTell : Fields → Type 0
+  FieldsTell (Within top bottom) =
+      (fieldsSound d ≡ true) × (top ≡ head (pos (d .header .«top_level»))) × (bottom ≡ head (pos (d .header .«bottom_level»)))
+  FieldsTell Outside = fieldsSound d ≡ false
+
+  pub fields-tell : {answer : Fields} → answer ≡ fieldsAnswer d → FieldsTell answer
+  unfolding fieldsAnswer
+  fields-tell told = rw told (go (fieldsSound d) refl)
+    where
+      go : (sound : Bool) → fieldsSound d ≡ sound →
+          FieldsTell
+          (elim sound [
+            | true ↦ Within (head (pos (d .header .«top_level»))) (head (pos (d .header .«bottom_level»)))
+            | false ↦ Outside
+          ])
+      go true e = (e, refl, refl)
+      go false e = e

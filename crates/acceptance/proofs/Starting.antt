@@ -1,0 +1,94 @@
+-- The water of a start, as arrays hold it.
+use Prim.Native.Nat.{ℕ, _≤_, _<_}
+use native.Mathlib.Omega.{arith}
+use borrow.Author.Tests.{eq-eqb, ne-eqb}
+use lib.Dec.{eqb, ltb, eqb→eq}
+use borrow.Author.Tests.{ltb-true, ltb-false}
+use lib.IntN.{pos}
+use lib.ListN.{getD, length}
+use mathlib.Core.Bool.{Bool, true, false, _||_}
+use mathlib.Core.List.{List, map}
+use mathlib.Core.Option.{some}
+use mathlib.Core.Path.{_≡_, refl, sym, ap, _∙_}
+use Rattle.acceptance.specs.Accepting.{waterStarted}
+use Rattle.laws.specs.Every.{every-at}
+use Rattle.numbers.specs.Arrays.{tabulate, firstPlaces, overlaid, filled}
+use Rattle.numbers.specs.Filled.{first-length, getD-overlaid, getD-overlaid-past, length-overlaid, length-tabulate, overlaid-overlaid, overlaid-take, tabulate-cong, tabulate-getD}
+use Rattle.numbers.specs.Indices.{all-tabulate}
+use Rattle.numbers.specs.Indices as indices
+use Rattle.numbers.specs.Lists.{all}
+use Rattle.numbers.specs.Searches.{passed}
+use Rattle.rules.specs.Layer.{Skeleton}
+use Rattle.rules.specs.Quantities.{waterLimits}
+use Rattle.rules.specs.Start.{restingFrom, startWater}
+use Rattle.rules.specs.Step.{allOnCurve}
+use Rattle.start.proofs.Heights.{heights-few, heights-most}
+use Rattle.start.proofs.Opened.{given-start, resting-start, resting-array}
+use Rattle.start.specs.Rest.{allOrNone, restingHeights}
+
+-- ---- the water that is found
+
+module _ (soil : Skeleton) (Bs Ss : List ℕ) (start : ℕ) (given : List ℕ) (load : ℕ) where
+  -- start 0: what is given, by the test that all of it is on the curve
+  pub given-found : start ≡ 0 → {on : Bool} → on ≡ allOnCurve soil Ss (map pos given) →
+      startWater soil Bs Ss start given load ≡ allOrNone on given
+  given-found e is = given-start soil Bs Ss start given load (eq-eqb start 0 e) ∙ ap (λ (on : Bool). allOrNone on given) (sym is)
+
+  -- start 1: what rests
+  pub resting-found : (start ≡ 0 → ⊥) → startWater soil Bs Ss start given load ≡ restingFrom soil load Bs Ss
+  resting-found e = resting-start soil Bs Ss start given load (ne-eqb start 0 e)
+
+-- ---- the array that is left
+
+module _ (n : ℕ) (before : List ℕ) (few : n ≤ length before) where
+  -- an array's own first places change nothing
+  own-places : overlaid (firstPlaces n before) before ≡ before
+  unfolding firstPlaces
+  own-places = rw (tabulate-getD n before 0 few) (overlaid-take n before)
+
+  -- start 0
+  pub given-left : (on : Bool) → before ≡ waterStarted (allOrNone on (firstPlaces n before)) before
+  unfolding allOrNone waterStarted
+  given-left true = sym own-places
+  given-left false = refl
+
+  -- start 1: heights from the lowest up, as far as the elements rest
+  module _ (soil : Skeleton) (load : ℕ) (burden solids after : List ℕ)
+      (is : after ≡ overlaid (restingHeights soil load (firstPlaces n burden) (firstPlaces n solids)) before) where
+    abbrev heights : List ℕ
+    heights = restingHeights soil load (firstPlaces n burden) (firstPlaces n solids)
+
+    no-more : length heights ≤ n
+    no-more = omega (arith, heights-few soil load (firstPlaces n burden) (firstPlaces n solids), first-length n burden)
+
+    pub resting-long : length after ≡ length before
+    resting-long = ap (λ (l : List ℕ). length l) is ∙ length-overlaid heights before (omega (arith, no-more))
+
+    pub resting-most : ((j : ℕ) → j < n → getD before j 0 ≤ waterLimits .most) → (j : ℕ) → j < n → getD after j 0 ≤ waterLimits .most
+    resting-most most j h = rw is (go (ltb j (length heights)) refl)
+      where
+        go : (below : Bool) → ltb j (length heights) ≡ below → getD (overlaid heights before) j 0 ≤ waterLimits .most
+        go true e =
+            rw (getD-overlaid heights before j 0 (ltb-true _ _ e))
+            (every-at (λ W. W ≤ waterLimits .most) heights j 0 (heights-most soil load (firstPlaces n burden) (firstPlaces n solids)) (ltb-true _ _ e))
+        go false e = rw (getD-overlaid-past heights before j 0 (ltb-false _ _ e)) (most j h)
+
+    -- all rest
+    pub resting-left : restingFrom soil load (firstPlaces n burden) (firstPlaces n solids) ≡ some (firstPlaces n after) →
+        after ≡ overlaid (firstPlaces n after) before
+    resting-left found = resting-array soil load (firstPlaces n burden) (firstPlaces n solids) (firstPlaces n after) before after found is
+
+    -- one does not, and the heights are taken back, where no water was given
+    pub cleared-left : all (λ w. eqb w 0) (firstPlaces n before) ≡ true → filled after n (λ _. 0) ≡ before
+    unfolding filled firstPlaces
+    cleared-left dry =
+        let each : (j : ℕ) → j < n → 0 ≡ getD before j 0 = λ j h.
+        sym (eqb→eq (getD before j 0) 0
+        (indices.every-at n (λ i. eqb (getD before i 0) 0) (rw (all-tabulate (λ w. eqb w 0) n (λ i. getD before i 0)) at (passed dry)) j h)) in
+        ap (λ (l : List ℕ). overlaid (tabulate n (λ _. 0)) l) is ∙
+        overlaid-overlaid (tabulate n (λ _. 0)) heights before (omega (arith, no-more, length-tabulate {A = ℕ} n (λ _. 0))) ∙
+        ap (λ (l : List ℕ). overlaid l before) (tabulate-cong n (λ _. 0) (λ j. getD before j 0) each) ∙ own-places
+
+-- no water is given but in start 0
+pub dry-given : (start : ℕ) (dry : Bool) → (start ≡ 0 → ⊥) → (eqb start 0 || dry) ≡ true → dry ≡ true
+dry-given start dry e t = rw (ne-eqb start 0 e) at t
