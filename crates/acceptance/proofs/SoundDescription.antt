@@ -10,20 +10,21 @@ use mathlib.Core.Option.{Option, none, some}
 use mathlib.Core.Path.{_≡_, refl, sym, ap, _∙_}
 use Rattle.acceptance.proofs.Checking.{none-tests}
 use Rattle.acceptance.specs.Accepting.{waterStarted}
-use Rattle.acceptance.specs.AcceptingLaws.{Accepts, burdensIn, header-within, off-accepts, start-accepts}
+use Rattle.acceptance.proofs.AcceptingLaws.{Accepts, burdensIn, header-within, off-accepts, start-accepts}
 use Rattle.acceptance.specs.Lent.{progressAt}
-use Rattle.laws.specs.Every.{Every, every-at, every-tabulate}
-use Rattle.laws.specs.Excess.{burdens-most}
-use Rattle.laws.specs.Lengths.{burdens-length}
+use Rattle.laws.specs.Every.{Every}
+use Rattle.laws.proofs.Every.{every-at, every-tabulate}
+use Rattle.laws.proofs.Excess.{burdens-most}
+use Rattle.laws.proofs.Lengths.{burdens-length}
 use Rattle.laws.specs.Most.{mostBurden, sharpBurden}
-use Rattle.laws.specs.Sizes.{SoundSizes, sound-sizes}
-use Rattle.laws.specs.SoundHeader.{SoundHeader, kept-header}
+use Rattle.laws.proofs.Sizes.{SoundSizes, sound-sizes}
+use Rattle.laws.proofs.SoundHeader.{SoundHeader, kept-header}
 use Rattle.layer.specs.Weights.{burdenAt}
 use Rattle.numbers.specs.Arrays.{firstPlaces}
-use Rattle.numbers.specs.Filled.{first-length, getD-filled}
+use Rattle.numbers.proofs.Filled.{first-length, getD-filled}
 use Rattle.numbers.specs.Lists.{all, firstOr}
-use Rattle.numbers.specs.Searches.{passed, both, is-true}
-use Rattle.numbers.specs.Signed.{signed}
+use Rattle.numbers.proofs.Searches.{passed, both, is-true}
+use Rattle.numbers.proofs.Signed.{signed}
 use Rattle.numbers.specs.Sums.{sum}
 use Rattle.rules.proofs.Points.{from-point}
 use Rattle.rules.specs.Curve.{Point, points, compressibilitySound}

@@ -11,13 +11,13 @@ use mathlib.Core.List.{List, map}
 use mathlib.Core.Option.{some}
 use mathlib.Core.Path.{_≡_, refl, sym, ap, _∙_}
 use Rattle.acceptance.specs.Accepting.{waterStarted}
-use Rattle.laws.specs.Every.{every-at}
+use Rattle.laws.proofs.Every.{every-at}
 use Rattle.numbers.specs.Arrays.{tabulate, firstPlaces, overlaid, filled}
-use Rattle.numbers.specs.Filled.{first-length, getD-overlaid, getD-overlaid-past, length-overlaid, length-tabulate, overlaid-overlaid, overlaid-take, tabulate-cong, tabulate-getD}
-use Rattle.numbers.specs.Indices.{all-tabulate}
-use Rattle.numbers.specs.Indices as indices
+use Rattle.numbers.proofs.Filled.{first-length, getD-overlaid, getD-overlaid-past, length-overlaid, length-tabulate, overlaid-overlaid, overlaid-take, tabulate-cong, tabulate-getD}
+use Rattle.numbers.proofs.Indices.{all-tabulate}
+use Rattle.numbers.proofs.Indices as indices
 use Rattle.numbers.specs.Lists.{all}
-use Rattle.numbers.specs.Searches.{passed}
+use Rattle.numbers.proofs.Searches.{passed}
 use Rattle.rules.specs.Layer.{Skeleton}
 use Rattle.rules.specs.Quantities.{waterLimits}
 use Rattle.rules.specs.Start.{restingFrom, startWater}

@@ -1,5 +1,4 @@
--- What the contracts of an acceptance cite beside the rules, and what accepting a description leaves.
+-- What the contracts of an acceptance cite beside the rules.
 pub mod Lent
 pub mod Causes
 pub mod Accepting
-pub mod AcceptingLaws

@@ -19,9 +19,6 @@ use Rattle.rules.specs.declared.answers.Answer.the-variants.{Done, Refused}
 use Rattle.rules.specs.declared.answers.Call.{Call}
 use Rattle.rules.specs.declared.answers.Refusal.the-variants.{NoLayer}
 use Rattle.rules.specs.declared.record.Record.{Record}
--- the proof
-use Rattle.claims.specs.After as after
-use Rattle.claims.specs.Opened.{opened, opened-record}
 
 -- The site of a job, the tally as it begins, its course through the calls; every answer of the calls on the record, and the record after them.
 pub record Term3 (site : Site) (first : Tally) (c : Course) (answers : List Answer) (r : Record) : Type 0 where
@@ -54,31 +51,10 @@ pub record Term3 (site : Site) (first : Tally) (c : Course) (answers : List Answ
       Every NotLowered (stepTraces own (c .events) (first .state))
 
 -- Every job that opening accepts has the water of its start, and with it the tally of which term 3 speaks.
-pub term3 : (job : List ℕ) (calls : List Call) → (opening job) .answer ≡ Done →
+abbrev pub Term3Holds : (job : List ℕ) (calls : List Call) → Type 0
+Term3Holds job calls =
+    (opening job) .answer ≡ Done →
     let site = jobSite (described job) in
     let replay = replayed ((opening job) .after) calls in
     (water : List ℕ) × (descriptionWater (described job) ≡ some water) ×
     Term3 site (begun site water) (course site calls (begun site water)) (replay .answers) (replay .after)
-unfolding tallySite begun
-term3 job calls accepted =
-    let site = jobSite (described job) in
-    let o = opened job accepted in
-    let w = o .water in
-    let r = (opening job) .after in
-    let h = opened-record job accepted in (
-      w,
-      o .starts,
-      record {
-        solids-as-tallied = after.same-solids site w r h calls;
-        state-as-tallied = after.same-state site w r h calls;
-        starting-water-as-tallied = after.starting-water site w r h calls;
-        answers-as-tallied = after.same-answers site w r h calls;
-        cause-11-never-arises = after.no-refusal-11 site w r h calls;
-        water-balances = after.balanced site w r h calls;
-        settlement-of-heights = after.settlement-is site w r h calls;
-        settlement-by-outflows = after.settles site w r h calls;
-        solids-of-the-job = after.job-solids site w r h calls;
-        excesses-stay-between = after.bounded site w r h calls;
-        no-step-lowers-an-outflow = after.not-lowered site w r h calls;
-      },
-    )

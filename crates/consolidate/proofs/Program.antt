@@ -9,14 +9,14 @@ use mathlib.Core.Bool.{Bool, true, false, not}
 use mathlib.Core.Logic.{⊎-elim}
 use mathlib.Core.List.{List, [], _∷_}
 use mathlib.Core.Path.{_≡_, refl, sym, ap, _∙_}
-use Rattle.answers.specs.Causes.{cause-numbered}
-use Rattle.claims.specs.Described.{described-sound}
-use Rattle.claims.specs.Causes.{neither, none-holds}
-use Rattle.claims.specs.Opened.{opening-either, opened}
-use Rattle.encoding.specs.Stores.{sets-front}
+use Rattle.answers.proofs.Causes.{cause-numbered}
+use Rattle.claims.proofs.Described.{described-sound}
+use Rattle.claims.proofs.Causes.{neither, none-holds}
+use Rattle.claims.proofs.Opened.{opening-either, opened}
+use Rattle.encoding.proofs.Stores.{sets-front}
 use Rattle.laws.specs.Every.{Every}
-use Rattle.laws.specs.SoundHeader.{kept-header}
-use Rattle.key.specs.KeyLaws.{key-refused, key-leaves}
+use Rattle.laws.proofs.SoundHeader.{kept-header}
+use Rattle.key.proofs.KeyLaws.{key-refused, key-leaves}
 use Rattle.numbers.specs.Arrays.{zeros, overlaid}
 use Rattle.rules.specs.Job.{described, headerLength, marked, framingCauses, jobCauses}
 use Rattle.rules.specs.Key.{key}

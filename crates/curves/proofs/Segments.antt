@@ -8,10 +8,10 @@ use lib.ListN.{getD, drop}
 use mathlib.Core.Bool.{Bool, true, false, _&&_}
 use mathlib.Core.List.{List}
 use mathlib.Core.Path.{_≡_, refl, sym, ap, _∙_}
-use Rattle.laws.specs.Segment.{spans-bounds, read-by-segment}
-use Rattle.numbers.specs.Filled.{length-tabulate, getD-tabulate}
+use Rattle.laws.proofs.Segment.{spans-bounds, read-by-segment}
+use Rattle.numbers.proofs.Filled.{length-tabulate, getD-tabulate}
 use Rattle.numbers.specs.Interpolation.{distance}
-use Rattle.numbers.specs.Searches.{passed}
+use Rattle.numbers.proofs.Searches.{passed}
 use Rattle.rules.specs.Curve.{point, points, spans, interpolated, curveAt}
 use Rattle.rules.specs.Quantities.{stressLimits, voidLimits}
 use Rattle.rules.specs.declared.quantities.CurveValue.the-variants.{On, Off}

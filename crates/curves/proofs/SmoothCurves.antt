@@ -7,7 +7,7 @@ use mathlib.Core.Bool.{true}
 use mathlib.Core.List.{List}
 use mathlib.Core.Path.{_≡_}
 use Rattle.curves.specs.Smooth.{Smooth}
-use Rattle.laws.specs.Rising.{rising-way, falling-way}
+use Rattle.laws.proofs.Rising.{rising-way, falling-way}
 use Rattle.rules.specs.Curve.{Point, points, compressibilitySound, conductivitySound}
 use Rattle.rules.proofs.Sound.{compressible, falls-down, conductive, rises-up}
 

@@ -9,13 +9,13 @@ use mathlib.Core.List.{List, [], _∷_}
 use mathlib.Core.Path.{_≡_, refl}
 use Rattle.element.specs.Elements.{elementOf, elementIn, elementsIn, flowAbove}
 use Rattle.laws.specs.Most.{mostExcess, mostDifference, mostFlow}
-use Rattle.laws.specs.Index.{flow-at}
-use Rattle.laws.specs.Outflow.{HeldWithin}
-use Rattle.laws.specs.Spread.{Holds}
-use Rattle.numbers.specs.Filled.{length-tabulate, getD-tabulate}
-use Rattle.numbers.specs.Interval.{Within, within-mul, within-quot, within-sub, within-le, within-pos}
+use Rattle.laws.proofs.Index.{flow-at}
+use Rattle.laws.specs.Faces.{HeldWithin, Holds}
+use Rattle.numbers.proofs.Filled.{length-tabulate, getD-tabulate}
+use Rattle.numbers.specs.Interval.{Within}
+use Rattle.numbers.proofs.Interval.{within-mul, within-quot, within-sub, within-le, within-pos}
 use Rattle.numbers.specs.Rounding.{cut}
-use Rattle.numbers.specs.Searches.{by-test}
+use Rattle.numbers.proofs.Searches.{by-test}
 use Rattle.rules.specs.Quantities.{stepLimits}
 use Rattle.rules.specs.Layer.{Element}
 use Rattle.rules.specs.Step.{innerResistance, outerResistance, upward, outward, flowsAbove}

@@ -5,7 +5,7 @@ ghost use mathlib.Core.Path.{_≡_};
 ghost use Prim.Native.Nat.{_+_, _≤_, _<_};
 ghost use Rattle.element.specs.Elements.{elementOf};
 ghost use Rattle.laws.specs.Most.{mostBurden, mostExcess, mostDifference, mostResistance, mostFaceResistance, mostWeight};
-ghost use Rattle.laws.specs.Outflow.{HeldWithin};
+ghost use Rattle.laws.specs.Faces.{HeldWithin};
 ghost use Rattle.numbers.specs.Interval.{Within};
 ghost use Rattle.numbers.specs.Rounding.{cut};
 ghost use Rattle.rules.specs.Curve.{points, compressibilitySound};

@@ -6,7 +6,7 @@ use lib.ListN.{getD}
 use mathlib.Core.List.{List}
 use mathlib.Core.Path.{_≡_, sym}
 use Rattle.numbers.specs.Bytes.{field}
-use Rattle.numbers.specs.LittleEndian.{field-suc}
+use Rattle.numbers.proofs.LittleEndian.{field-suc}
 
 -- one byte more, as a loop comes down from the highest
 pub field-down : (size offset i : ℕ) (bs : List ℕ) → 0 < i → i ≤ size →

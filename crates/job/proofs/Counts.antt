@@ -2,7 +2,7 @@
 use Prim.Native.Nat.{ℕ, _+_, _*_, _≤_}
 use mathlib.Core.Bool.{true}
 use mathlib.Core.Path.{_≡_}
-use Rattle.laws.specs.SoundHeader.{kept-header}
+use Rattle.laws.proofs.SoundHeader.{kept-header}
 use Rattle.rules.specs.Job.{headerSound, jobLength}
 use Rattle.rules.specs.Quantities.{elementLimits, curveLimits, tableLimits}
 use Rattle.rules.specs.declared.job.Header.{Header}

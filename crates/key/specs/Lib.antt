@@ -1,5 +1,3 @@
--- What the key does with a job that opening accepts, and the specimen's key.
-pub mod Layers
+-- What the key leaves in an array that it is lent, and the specimen's key.
 pub mod Water
-pub mod KeyLaws
 pub mod Specimen

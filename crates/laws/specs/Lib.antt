@@ -1,36 +1,8 @@
--- What is true of the rules.
--- lists
+-- What contracts cite of the rules' laws: bounds of what a step reads, and what holds of lists and faces.
 pub mod Every
--- curves
 pub mod Segment
-pub mod Rising
-pub mod Ranges
-pub mod Slope
-pub mod Steep
-pub mod VoidRatio
 pub mod Bounds
--- the maximum principle
-pub mod Reading
 pub mod Amid
-pub mod Flow
-pub mod Principle
-pub mod Contacts
-pub mod OnCurve
-pub mod Spread
--- the ranges of what a step reads and of what flows out
 pub mod Most
-pub mod Excess
-pub mod Outflow
--- the balance of water
-pub mod Lengths
-pub mod Balance
--- the longest step
-pub mod Longest
+pub mod Faces
 pub mod Shorten
--- what a sound header, sound sizes, a sound site and a sound state say
-pub mod SoundHeader
-pub mod Sizes
-pub mod SiteFacts
-pub mod StateFacts
--- lists by index, as loops over arrays read them
-pub mod Index

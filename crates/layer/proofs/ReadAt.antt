@@ -3,11 +3,11 @@ use Prim.Native.Nat.{ℕ, _≤_, _<_}
 use lib.Dec.{T}
 use lib.IntN.{ℤ}
 use mathlib.Core.List.{List}
-use Rattle.laws.specs.Excess as Excess
-use Rattle.laws.specs.Ranges.{conductivity-ranged, conducts}
-use Rattle.laws.specs.VoidRatio.{water-on-curve}
+use Rattle.laws.proofs.Excess as Excess
+use Rattle.laws.proofs.Ranges.{conductivity-ranged, conducts}
+use Rattle.laws.proofs.VoidRatio.{water-on-curve}
 use Rattle.layer.specs.Soil.{SoilSound, OnSoil}
-use Rattle.numbers.specs.Searches.{passed}
+use Rattle.numbers.proofs.Searches.{passed}
 use Rattle.rules.specs.Curve.{points, curveAt, isOn, valueOf}
 use Rattle.rules.specs.Layer.{skeletonOf, voidRatio, effectiveStress, hydraulicConductivity}
 use Rattle.rules.specs.Quantities.{stressLimits, conductivityLimits, waterLimits}

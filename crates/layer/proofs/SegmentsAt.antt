@@ -9,7 +9,7 @@ use mathlib.Core.List.{List}
 use mathlib.Core.Path.{_≡_, refl, sym, ap, _∙_}
 use Rattle.layer.specs.Segments.{Segments}
 use Rattle.numbers.specs.Arrays.{firstPlaces, overlaid, filled}
-use Rattle.numbers.specs.Filled.{first-length, length-overlaid, overlaid-overlaid, filled-cong, filled-store}
+use Rattle.numbers.proofs.Filled.{first-length, length-overlaid, overlaid-overlaid, filled-cong, filled-store}
 
 module _ {points : ℕ} {before : List ℕ} where
   -- no place yet

@@ -6,14 +6,15 @@ use lib.IntN.{ℤ, pos, negℤ}
 use lib.ListN.{length, getD, drop}
 use mathlib.Core.List.{List, [], _∷_, map}
 use mathlib.Core.Path.{_≡_, refl, sym, ap, _∙_}
-use Rattle.laws.specs.Bounds.{lowestWater, highestWater, on-curve-bounds}
-use Rattle.laws.specs.Rising.{lastAbscissa}
-use Rattle.laws.specs.Index.{element-at, moved-at}
-use Rattle.laws.specs.Lengths.{elements-length, above-length, moved-length}
+use Rattle.laws.specs.Bounds.{lowestWater, highestWater}
+use Rattle.laws.proofs.Bounds.{on-curve-bounds}
+use Rattle.laws.proofs.Rising.{lastAbscissa}
+use Rattle.laws.proofs.Index.{element-at, moved-at}
+use Rattle.laws.proofs.Lengths.{elements-length, above-length, moved-length}
 use Rattle.element.specs.Elements.{elementOf, elementIn, elementsIn, flowAbove}
 use Rattle.water.specs.Water.{newWater, staysAt}
 use Rattle.numbers.specs.Arrays.{tabulate, firstPlaces, everyIndex}
-use Rattle.numbers.specs.Filled.{length-tabulate, getD-tabulate, drop-tabulate, tabulated, tabulate-cong}
+use Rattle.numbers.proofs.Filled.{length-tabulate, getD-tabulate, drop-tabulate, tabulated, tabulate-cong}
 use Rattle.numbers.specs.Lists.{all, paired}
 use Rattle.rules.specs.Curve.{Point, falling}
 use Rattle.rules.proofs.Falling.{firstAbscissa}

@@ -8,7 +8,7 @@ use mathlib.Core.List.{List, [], _∷_}
 use mathlib.Core.Path.{_≡_, refl, _∙_}
 use Rattle.layer.specs.Weights.{weightFrom, burdenAt}
 use Rattle.numbers.specs.Arrays.{firstPlaces}
-use Rattle.numbers.specs.Filled.{length-tabulate, getD-tabulate, drop-tabulate, drop-tabulate-end}
+use Rattle.numbers.proofs.Filled.{length-tabulate, getD-tabulate, drop-tabulate, drop-tabulate-end}
 use Rattle.numbers.specs.Rounding.{floor}
 use Rattle.numbers.specs.Sums.{sum}
 use Rattle.rules.specs.Layer.{buoyantWeight, burden, burdens}

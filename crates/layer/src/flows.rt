@@ -4,7 +4,7 @@ ghost use lib.ListN.{length, getD};
 ghost use mathlib.Core.Path.{_≡_};
 ghost use Prim.Native.Nat.{_+_, _≤_, _<_};
 ghost use Rattle.element.specs.Elements.{Readable, flowAbove, elementOf};
-ghost use Rattle.laws.specs.Outflow.{HeldWithin};
+ghost use Rattle.laws.specs.Faces.{HeldWithin};
 ghost use Rattle.numbers.specs.Arrays.{filled};
 ghost use Rattle.rules.specs.Quantities.{stepLimits, elementLimits};
 ghost use Rattle.rules.specs.Step.{outward};

@@ -11,9 +11,9 @@ use mathlib.Core.Path.{_≡_, refl, sym, ap, subst, _∙_}
 use Rattle.element.proofs.FlowsAt.{outward-range, above-range}
 use Rattle.element.specs.Elements.{elementOf, Readable, flowAbove}
 use Rattle.laws.specs.Bounds.{lowestWater, highestWater}
-use Rattle.laws.specs.Index.{last-at}
-use Rattle.laws.specs.Outflow.{HeldWithin}
-use Rattle.laws.specs.Rising.{lastAbscissa}
+use Rattle.laws.proofs.Index.{last-at}
+use Rattle.laws.specs.Faces.{HeldWithin}
+use Rattle.laws.proofs.Rising.{lastAbscissa}
 use Rattle.layer.proofs.StepAt.{paired-tabulate, upward-flows-in, moved-in, stays-in}
 use Rattle.layer_step.specs.Moving.{flowsIn, newHeights, staysBetween, movedBy, movedIn, waterBy, waterIn, longestBy, waterLongest, flowsLongest}
 use Rattle.layer_step.specs.declared.Longest.{Longest}
@@ -21,12 +21,12 @@ use Rattle.layer_step.specs.declared.Longest.the-variants.{NoneTaken, Ta
 use Rattle.layer_step.specs.declared.Moved.{Moved}
 use Rattle.layer_step.specs.declared.Moved.the-variants.{Flows, Leaves}
 use Rattle.numbers.specs.Arrays.{tabulate, firstPlaces, overlaid, filled, everyIndex}
-use Rattle.numbers.specs.Filled.{length-tabulate, getD-tabulate, getD-filled}
-use Rattle.numbers.specs.Indices.{every-at, every-cong}
-use Rattle.numbers.specs.Interval.{within-neg}
+use Rattle.numbers.proofs.Filled.{length-tabulate, getD-tabulate, getD-filled}
+use Rattle.numbers.proofs.Indices.{every-at, every-cong}
+use Rattle.numbers.proofs.Interval.{within-neg}
 use Rattle.numbers.specs.Lists.{paired, firstOr, lastOr}
-use Rattle.numbers.specs.Searches.{passed, both}
-use Rattle.numbers.specs.Signed.{signed}
+use Rattle.numbers.proofs.Searches.{passed, both}
+use Rattle.numbers.proofs.Signed.{signed}
 use Rattle.rules.proofs.Falling.{firstAbscissa}
 use Rattle.rules.specs.Curve.{Point, falling}
 use Rattle.rules.specs.Layer.{skeletonOf}

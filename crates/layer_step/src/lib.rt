@@ -7,7 +7,7 @@ ghost use mathlib.Core.Path.{_≡_};
 ghost use Prim.Native.Nat.{ℕ, _-_, _≤_, _<_};
 ghost use Rattle.element.specs.Elements.{Readable, flowAbove};
 ghost use Rattle.laws.specs.Bounds.{lowestWater, highestWater};
-ghost use Rattle.laws.specs.Outflow.{HeldWithin};
+ghost use Rattle.laws.specs.Faces.{HeldWithin};
 ghost use Rattle.layer_step.specs.Moving.{flowsIn, movedIn, waterIn, longestBy, waterLongest, flowsLongest};
 ghost use Rattle.numbers.specs.Arrays.{filled};
 ghost use Rattle.rules.specs.Curve.{points, compressibilitySound, curveSteepness};

@@ -1,8 +1,4 @@
--- A record that is a layer: what its arrays give to the functions that are lent them, and what calls on it answer.
+-- What is worked out and read of a layer that is lent, and its progress.
 pub mod Burdens
 pub mod Worked
 pub mod Progress
-pub mod Standing
-pub mod CallLaws
-pub mod StepLaws
-pub mod Reads

@@ -4,11 +4,11 @@ use lib.IntN.{ℤ, pos}
 use lib.ListN.{replicate}
 use mathlib.Core.Bool.{true}
 use mathlib.Core.List.{List}
-use mathlib.Core.Path.{_≡_, subst}
+use mathlib.Core.Path.{_≡_}
 use Rattle.lent.specs.Worked.{sensitivitiesIn, leastWaterIn, mostWaterIn, excessesIn, resistancesIn}
 use Rattle.numbers.specs.Arrays.{zeros}
 use Rattle.rules.specs.Curve.{curveSteepness}
-use Rattle.rules.specs.Record.{layerOf, recordOf, compressibilityPoints, isLayer}
+use Rattle.rules.specs.Record.{compressibilityPoints, isLayer}
 use Rattle.rules.specs.declared.record.Frame.{Frame}
 use Rattle.rules.specs.declared.record.Progress.{Progress}
 use Rattle.rules.specs.declared.record.Record.{Record}
@@ -32,17 +32,3 @@ pub record SomeRead (frame : Frame) (progress : Progress) (steepness : ℕ) (sen
     (resistance water : List ℕ) : Type 0 where
   pub r : Record
   pub read : ReadAs r frame progress steepness sensitivity low high excess resistance water
-
--- the record with these numbers and this water
-abbrev pub lentOf : Record → Frame → Progress → (water : List ℕ) → Record
-lentOf r frame progress water =
-    let l = r .layer in recordOf (r .soil) (layerOf frame progress (l .solids) water (l .«table_time») (l .«table_load»))
-
-module _ {r : Record} {frame : Frame} {progress : Progress} {steepness : ℕ} {sensitivity low high : List ℕ} {excess : List ℤ}
-    {resistance water : List ℕ} (read : ReadAs r frame progress steepness sensitivity low high excess resistance water) where
-  -- it is the record itself
-  pub lent-is : r ≡ lentOf r frame progress water
-  lent-is i = lentOf r (read .frame-is i) (read .progress-is i) (read .water-is i)
-
-  pub lent-read : ReadAs (lentOf r frame progress water) frame progress steepness sensitivity low high excess resistance water
-  lent-read = subst (λ (x : Record). ReadAs x frame progress steepness sensitivity low high excess resistance water) lent-is read

@@ -6,10 +6,10 @@ use mathlib.Core.List.{List}
 use mathlib.Core.Path.{_≡_, _∙_}
 use Rattle.acceptance.specs.Lent.{descriptionOf}
 use Rattle.job.specs.Pairs.{Pairs}
-use Rattle.laws.specs.SoundHeader.{kept-header}
+use Rattle.laws.proofs.SoundHeader.{kept-header}
 use Rattle.numbers.specs.Arrays.{zeros}
 use Rattle.numbers.specs.Bytes.{field}
-use Rattle.numbers.specs.Filled.{length-filled, length-zeros}
+use Rattle.numbers.proofs.Filled.{length-filled, length-zeros}
 use Rattle.rules.specs.Job.{Description, described, firsts, headerSound, seconds}
 use Rattle.rules.specs.declared.job.Header.{Header}
 

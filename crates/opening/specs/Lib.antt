@@ -1,4 +1,2 @@
--- What the contracts of an opening cite beside the rules; what a refused one leaves; and what an opened job says of its opening.
+-- What the contracts of an opening cite beside the rules.
 pub mod Opened
-pub mod OpenedLaws
-pub mod Blank

@@ -3,23 +3,23 @@ use Prim.Native.Nat.{ℕ, zero, suc, _+_, _≤_, _<_}
 use native.Mathlib.Omega.{arith}
 use lib.Dec.{T, eqb, ltb, ltb→lt}
 use lib.IntN.{ℤ, pos}
-use lib.ListN.{length, getD}
+use lib.ListN.{length}
 use mathlib.Core.Bool.{true, false, not}
 use mathlib.Core.List.{List, [], _∷_}
 use mathlib.Core.Path.{_≡_, refl, sym, ap, subst, _∙_}
-use Rattle.claims.specs.Accepted.{Accepted, StepAccepted}
-use Rattle.claims.specs.Events.{turn-goes, longest-within}
-use Rattle.claims.specs.Fixed.{own-places}
-use Rattle.claims.specs.Kept.{Kept, event-keeps}
-use Rattle.claims.specs.TableLoads.{sound-load}
-use Rattle.laws.specs.Longest.{longest-accepted}
+use Rattle.claims.proofs.Accepted.{Accepted, StepAccepted}
+use Rattle.claims.proofs.Events.{turn-goes, longest-within}
+use Rattle.claims.proofs.Fixed.{own-places}
+use Rattle.claims.proofs.Kept.{Kept, event-keeps}
+use Rattle.claims.proofs.TableLoads.{sound-load}
+use Rattle.laws.proofs.Longest.{longest-accepted}
 use Rattle.lent.specs.Progress as progress
-use Rattle.lent.specs.Standing.{counted}
+use Rattle.lent.proofs.Standing.{counted}
 use Rattle.layer_step.specs.declared.Longest.the-variants.{NoneTaken, Taken}
 use Rattle.numbers.specs.Arrays.{firstPlaces, overlaid, filled}
-use Rattle.numbers.specs.Filled.{length-overlaid, length-filled, overlaid-overlaid, first-length}
+use Rattle.numbers.proofs.Filled.{length-overlaid, length-filled, overlaid-overlaid, first-length}
 use Rattle.numbers.specs.Lists.{firstOr, lastOr}
-use Rattle.numbers.specs.Searches.{by-test}
+use Rattle.numbers.proofs.Searches.{by-test}
 use Rattle.rules.specs.Calls.{Ending, endedRun}
 use Rattle.rules.specs.Curve.{Point}
 use Rattle.rules.specs.Layer.{Site, State, elements}

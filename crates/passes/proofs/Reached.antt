@@ -7,15 +7,15 @@ use mathlib.Core.List.{List, [], _∷_}
 use mathlib.Core.Path.{_≡_, refl, sym, ap, _∙_}
 use mir.Syntax.{w64}
 use mir.Val.{SFits}
-use Rattle.claims.specs.Fixed.{Fixed, sized-dry, sound-site, is-layer}
-use Rattle.claims.specs.Kept.{SoundSite, Kept}
-use Rattle.laws.specs.SiteFacts.{site-parts}
-use Rattle.lent.specs.CallLaws.{own-front}
-use Rattle.lent.specs.Standing.{state-is, counted}
+use Rattle.claims.proofs.Fixed.{Fixed, sized-dry, sound-site, is-layer}
+use Rattle.claims.proofs.Kept.{SoundSite, Kept}
+use Rattle.laws.proofs.SiteFacts.{site-parts}
+use Rattle.lent.proofs.CallLaws.{own-front}
+use Rattle.lent.proofs.Standing.{state-is, counted}
 use Rattle.numbers.specs.Arrays.{firstPlaces, overlaid}
-use Rattle.numbers.specs.Filled.{first-length}
-use Rattle.numbers.specs.Interval.{within-fits, within-le}
-use Rattle.numbers.specs.Searches.{passed, both, is-true}
+use Rattle.numbers.proofs.Filled.{first-length}
+use Rattle.numbers.proofs.Interval.{within-fits, within-le}
+use Rattle.numbers.proofs.Searches.{passed, both, is-true}
 use Rattle.rules.proofs.Limits.{inside}
 use Rattle.rules.specs.Calls.{Ending, endedRun}
 use Rattle.rules.specs.Quantities.{clockLimits, startingWaterLimits, mostOutflow}

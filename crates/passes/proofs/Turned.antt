@@ -7,21 +7,19 @@ use mathlib.Core.List.{List}
 use mathlib.Core.Path.{_≡_, refl, sym, ap, _∙_}
 use Rattle.element.specs.Elements.{Readable}
 use Rattle.layer_step.proofs.MovingAt.{gives-leaves, gives-flows, keeps, moves-on}
-use Rattle.layer_step.specs.Moving.{flowsIn, staysBetween, movedIn, waterIn, longestBy, waterLongest, flowsLongest}
+use Rattle.layer_step.specs.Moving.{flowsIn, staysBetween, movedIn, longestBy, waterLongest, flowsLongest}
 use Rattle.layer_step.specs.declared.Longest.{Longest}
 use Rattle.layer_step.specs.declared.Longest.the-variants.{NoneTaken, Taken}
-use Rattle.layer_step.specs.declared.Moved.{Moved}
-use Rattle.lent.specs.Reads.{steepness-range, readable, limited, bounds-most, waters-most, longest-is, flows-are, leaves-is, stepped-is, above-are}
+use Rattle.lent.proofs.LayerReads.{steepness-range, readable, limited, bounds-most, waters-most, longest-is, flows-are, leaves-is, stepped-is, above-are}
 use Rattle.lent.specs.Worked.{WorkedOut, leastWaterIn, mostWaterIn, excessesIn, resistancesIn}
-use Rattle.numbers.specs.Arrays.{filled}
 use Rattle.numbers.specs.Lists.{firstOr, lastOr, greatest}
 use Rattle.passes.specs.Passing.{turned, flowsTurned}
 use Rattle.rules.specs.Layer.{Site, State, elements}
 use Rattle.rules.specs.Record.{recordSite, recordState, withState, isLayer}
 use Rattle.rules.specs.Run.{Turn, stops, goes, turn}
-use Rattle.rules.specs.Step.{upwardFlows, tooLong, leavesCurve, stepped}
+use Rattle.rules.specs.Step.{upwardFlows, tooLong, leavesCurve}
 use Rattle.rules.specs.Quantities.{stressLimits, waterLimits}
-use Rattle.rules.specs.declared.answers.Stop.the-variants.{NoStep, OffCurve}
+use Rattle.rules.specs.declared.answers.Stop.the-variants.{OffCurve}
 use Rattle.rules.specs.declared.quantities.Face.{Face}
 use Rattle.rules.specs.declared.record.Record.{Record}
 use Rattle.step_length.specs.Reach.{Limited, longestWithin}

@@ -5,11 +5,11 @@ use lib.ListN.{getD}
 use mathlib.Core.Bool.{true}
 use mathlib.Core.List.{List}
 use mathlib.Core.Path.{_≡_, refl, ap}
-use Rattle.laws.specs.Rising.{lastAbscissa, rising-on}
+use Rattle.laws.proofs.Rising.{lastAbscissa, rising-on}
 use Rattle.numbers.specs.Arrays.{tabulate}
-use Rattle.numbers.specs.Filled.{length-tabulate}
+use Rattle.numbers.proofs.Filled.{length-tabulate}
 use Rattle.numbers.specs.Lists.{lastOr}
-use Rattle.numbers.specs.Searches.{passed, same-test}
+use Rattle.numbers.proofs.Searches.{passed, same-test}
 use Rattle.rules.specs.Curve.{Point, points, curveAt, isOn, rising}
 use Rattle.rules.specs.Quantities.{within, from_to_}
 use Rattle.rules.proofs.Falling.{firstAbscissa}

@@ -1,6 +1,4 @@
 -- Calls and answers as words, and what a replay of them gives.
 pub mod Words
-pub mod WordLaws
 pub mod Replaying
-pub mod ReplayLaws
 pub mod Claim

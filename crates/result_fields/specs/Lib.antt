@@ -1,4 +1,2 @@
--- What the contracts of a result's fields cite beside the rules, and their laws.
+-- What the contracts of a result's fields cite beside the rules.
 pub mod Elements
-pub mod HeadLaws
-pub mod Ranges

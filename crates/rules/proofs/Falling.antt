@@ -9,8 +9,8 @@ use mathlib.Core.List.{List, [], _∷_}
 use mathlib.Core.Path.{_≡_, refl}
 use Rattle.numbers.specs.Interpolation.{distance}
 use Rattle.numbers.specs.Lists.{neighbours}
-use Rattle.numbers.specs.Searches.{both, joined}
-use Rattle.numbers.specs.Share.{interpolates}
+use Rattle.numbers.proofs.Searches.{both, joined}
+use Rattle.numbers.proofs.Shares.{interpolates}
 use Rattle.rules.specs.Curve.{Point, spans, interpolated, curveAt, isOn, valueOf, falling}
 use Rattle.rules.specs.declared.quantities.CurveValue.{CurveValue}
 use Rattle.rules.specs.declared.quantities.CurveValue.the-variants.{On}

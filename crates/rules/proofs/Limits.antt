@@ -7,8 +7,8 @@ use mathlib.Core.Bool.{Bool, true, false}
 use mathlib.Core.Path.{_≡_, refl, sym, _∙_}
 use lib.IntN.{ℤ, pos, negsuc, natAbs}
 use lib.Signed.{_≤ℤ_, _<ℤ_}
-use Rattle.numbers.specs.Searches.{both, passed}
-use Rattle.numbers.specs.Signed.{signed}
+use Rattle.numbers.proofs.Searches.{both, passed}
+use Rattle.numbers.proofs.Signed.{signed}
 use Rattle.rules.specs.Quantities.{Limits, within, withinℤ, from_to_, stressLimits, voidLimits, levelLimits, clockLimits, head, pressure}
 use Rattle.rules.specs.Tested.{tested, testedHead, testedPressure, testedVoid, testedClock}
 use Rattle.rules.specs.declared.quantities.TestedHead.{TestedHead}

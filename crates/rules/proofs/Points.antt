@@ -7,9 +7,9 @@ use lib.ListN.{getD, drop}
 use mathlib.Core.Bool.{Bool, true, false, _&&_}
 use mathlib.Core.List.{List, [], _∷_}
 use mathlib.Core.Path.{_≡_, refl, sym, ap, _∙_}
-use Rattle.numbers.specs.Filled.{drop-tabulate, drop-tabulate-end}
+use Rattle.numbers.proofs.Filled.{drop-tabulate, drop-tabulate-end}
 use Rattle.numbers.specs.Lists.{all, neighbours}
-use Rattle.numbers.specs.Searches.{both, all-drop, neighbours-drop}
+use Rattle.numbers.proofs.Searches.{both, all-drop, neighbours-drop}
 use Rattle.rules.specs.Curve.{Point, point, points}
 
 module _ (n : ℕ) (xs ys : List ℕ) where

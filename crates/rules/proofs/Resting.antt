@@ -6,8 +6,8 @@ use mathlib.Core.Bool.{false}
 use mathlib.Core.List.{List}
 use mathlib.Core.Option.{none, some}
 use mathlib.Core.Path.{_≡_}
-use Rattle.numbers.specs.Division.{floor-mono}
-use Rattle.numbers.specs.Searches.{failed, least-found, least-none}
+use Rattle.numbers.proofs.Division.{floor-mono}
+use Rattle.numbers.proofs.Searches.{failed, least-found, least-none}
 use Rattle.rules.specs.Curve.{Point, curveAt, isOn, valueOf, falling}
 use Rattle.rules.specs.Layer.{skeletonOf, voidRatio, effectiveStress}
 use Rattle.rules.specs.Quantities.{voidUnit, waterLimits}

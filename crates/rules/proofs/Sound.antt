@@ -9,7 +9,7 @@ use mathlib.Core.List.{List}
 use mathlib.Core.Path.{_≡_, refl}
 use Rattle.numbers.specs.Lists.{all}
 use Rattle.numbers.specs.Rounding.{ceil}
-use Rattle.numbers.specs.Searches.{passed, both}
+use Rattle.numbers.proofs.Searches.{passed, both}
 use Rattle.rules.specs.Curve.{Point, points, falling, rising, covers, compressibilitySound, conductivitySound, curveSteepness}
 use Rattle.rules.specs.Quantities.{within, stressLimits, voidLimits, conductivityLimits}
 use Rattle.rules.proofs.Limits.{within-parts}

@@ -45,11 +45,15 @@ word n = bytes 8 n
 abbrev pub signedWord : ℤ → List ℕ
 signedWord z = word (signedField z)
 
--- mark, version, stop, number of elements, a zero, clock, steps, load, both outflows and settlement
+-- mark, version, stop, number of elements, a zero
+abbrev pub beforeClock : Stop → (elements : ℕ) → List ℕ
+beforeClock stop elements = (76 ∷ 83 ∷ 82 ∷ []) ++ bytes 2 1 ++ bytes 1 (stopNumber stop) ++ bytes 1 elements ++ bytes 1 0
+
+-- and clock, steps, load, both outflows and settlement
 unfoldable pub headBytes : Stop → (elements clock steps load : ℕ) (topOutflow bottomOutflow settlement : ℤ) → List ℕ
 unfolding bytes stopNumber
 headBytes stop elements clock steps load topOutflow bottomOutflow settlement =
-    (76 ∷ 83 ∷ 82 ∷ []) ++ bytes 2 1 ++ bytes 1 (stopNumber stop) ++ bytes 1 elements ++ bytes 1 0 ++
+    beforeClock stop elements ++
     word clock ++ word steps ++ word load ++ signedWord topOutflow ++ signedWord bottomOutflow ++ signedWord settlement
 
 -- W, E, effective stress, total stress and pore pressure

@@ -5,7 +5,7 @@ use mathlib.Core.Bool.{Bool, true, false, not, _||_}
 use mathlib.Core.List.{[], _∷_}
 use mathlib.Core.Option.{Option, none, some}
 use mathlib.Core.Path.{_≡_, refl, ap, _∙_}
-use Rattle.lent.specs.CallLaws.{on-layer, refused-on-layer}
+use Rattle.lent.proofs.CallLaws.{on-layer, refused-on-layer}
 use Rattle.lent.specs.Progress.{refusedWith}
 use Rattle.rules.specs.Calls.{called, Ending, endedRun}
 use Rattle.rules.specs.Outcome.{Outcome, refused, ran, outcome}

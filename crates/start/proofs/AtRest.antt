@@ -8,9 +8,10 @@ use mathlib.Core.Bool.{Bool, true, false}
 use mathlib.Core.List.{List}
 use mathlib.Core.Option.{none, some}
 use mathlib.Core.Path.{_≡_}
-use Rattle.laws.specs.Bounds.{lowestWater, highestWater, highest-water, water-bounds}
-use Rattle.laws.specs.Index.{points-length}
-use Rattle.numbers.specs.Searches.{failed, both, least-found, least-none}
+use Rattle.laws.specs.Bounds.{lowestWater, highestWater}
+use Rattle.laws.proofs.Bounds.{highest-water, water-bounds}
+use Rattle.laws.proofs.Index.{points-length}
+use Rattle.numbers.proofs.Searches.{failed, both, least-found, least-none}
 use Rattle.rules.specs.Curve.{Point, points, compressibilitySound}
 use Rattle.rules.specs.Layer.{skeletonOf, effectiveStress}
 use Rattle.rules.specs.Quantities.{waterLimits}

@@ -4,8 +4,8 @@ use native.Mathlib.Omega.{arith}
 use lib.ListN.{length, getD}
 use mathlib.Core.List.{List, [], _∷_}
 use mathlib.Core.Path.{_≡_, refl, ap, _∙_}
-use Rattle.laws.specs.Index.{last-at, points-length, points-at}
-use Rattle.laws.specs.Rising.{lastAbscissa}
+use Rattle.laws.proofs.Index.{last-at, points-length, points-at}
+use Rattle.laws.proofs.Rising.{lastAbscissa}
 use Rattle.numbers.specs.Lists.{lastOr}
 use Rattle.rules.specs.Curve.{Point, point, points}
 use Rattle.rules.specs.Start.{lastStress}

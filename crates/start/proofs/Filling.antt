@@ -6,7 +6,7 @@ use mathlib.Core.List.{List}
 use mathlib.Core.Option.{Option, none, some, Option·getD}
 use mathlib.Core.Path.{_≡_, refl, sym, ap, _∙_}
 use Rattle.numbers.specs.Arrays.{firstPlaces, overlaid, filled}
-use Rattle.numbers.specs.Filled.{tabulate-cong, getD-filled, filled-done}
+use Rattle.numbers.proofs.Filled.{tabulate-cong, getD-filled, filled-done}
 use Rattle.rules.specs.Layer.{Skeleton}
 use Rattle.rules.specs.Start.{restingFrom}
 use Rattle.start.specs.Rest.{restingAnswer, restingHeights}

@@ -7,9 +7,9 @@ use mathlib.Core.Bool.{Bool, true, false}
 use mathlib.Core.List.{List, map}
 use mathlib.Core.Option.{Option, none, some}
 use mathlib.Core.Path.{_≡_, refl, sym, ap, _∙_}
-use Rattle.laws.specs.Lengths.{burdens-length}
+use Rattle.laws.proofs.Lengths.{burdens-length}
 use Rattle.numbers.specs.Arrays.{firstPlaces, overlaid}
-use Rattle.numbers.specs.Filled.{length-tabulate, tabulated}
+use Rattle.numbers.proofs.Filled.{length-tabulate, tabulated}
 use Rattle.rules.specs.Layer.{Skeleton, burdens}
 use Rattle.rules.specs.Start.{restingFrom, startWater}
 use Rattle.rules.specs.Step.{allOnCurve}

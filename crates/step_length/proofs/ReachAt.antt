@@ -7,13 +7,15 @@ use lib.IntN.{pos}
 use lib.ListN.{getD, drop}
 use mathlib.Core.List.{List, [], _∷_}
 use mathlib.Core.Path.{_≡_, sym, ap, _∙_}
-use Rattle.laws.specs.Contacts.{Limiting, every-contact}
-use Rattle.laws.specs.Every.{Every, every-tabulate}
+use Rattle.laws.proofs.Contacts.{Limiting, every-contact}
+use Rattle.laws.specs.Every.{Every}
+use Rattle.laws.proofs.Every.{every-tabulate}
 use Rattle.laws.specs.Most.{mostSensitivity, mostDivisor}
-use Rattle.laws.specs.Shorten.{shortened, shortened-append, greatest-shortened, too-long-shortened, inner-shortened}
+use Rattle.laws.specs.Shorten.{shortened}
+use Rattle.laws.proofs.Shorten.{shortened-append, greatest-shortened, too-long-shortened, inner-shortened}
 use Rattle.element.specs.Elements.{elementOf, elementIn, elementsIn}
 use Rattle.step_length.specs.Reach.{Limited, touching, isTooLong, longestWithin}
-use Rattle.numbers.specs.Filled.{drop-tabulate, drop-tabulate-end}
+use Rattle.numbers.proofs.Filled.{drop-tabulate, drop-tabulate-end}
 use Rattle.numbers.specs.Rounding.{floor}
 use Rattle.rules.specs.Layer.{Element}
 use Rattle.rules.specs.Quantities.{stressLimits}

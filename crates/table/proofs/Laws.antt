@@ -12,9 +12,9 @@ use Rattle.numbers.specs.Integers.{up, down}
 use Rattle.numbers.specs.Interpolation.{share}
 use Rattle.numbers.specs.Lists.{all, neighbours, firstOr}
 use Rattle.numbers.specs.Rounding.{cut}
-use Rattle.numbers.specs.Searches.{passed, both}
-use Rattle.numbers.specs.Share.{interpolates}
-use Rattle.numbers.specs.Signed.{signed, one-sided, add-parts, sub-parts, up-mul, down-mul, up-cut, down-cut}
+use Rattle.numbers.proofs.Searches.{passed, both}
+use Rattle.numbers.proofs.Shares.{interpolates}
+use Rattle.numbers.proofs.Signed.{signed, one-sided, add-parts, sub-parts, up-mul, down-mul, up-cut, down-cut}
 use Rattle.rules.specs.Curve.{Point, points}
 use Rattle.rules.specs.Load.{firstPoint, tableSound, loadAt, nextTime}
 use Rattle.rules.specs.Quantities.{within, clockLimits, stressLimits}

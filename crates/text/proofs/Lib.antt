@@ -1,1 +1,2 @@
--- The proofs of `text`.
+-- Laws of numbers as text.
+pub mod Laws

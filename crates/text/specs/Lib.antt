@@ -1,4 +1,2 @@
 -- Numbers as text.
 pub mod Text
--- laws of text
-pub mod Laws

@@ -9,7 +9,7 @@ use mathlib.Core.Path.{_≡_, refl}
 use Rattle.laws.specs.Most.{mostFlow}
 use Rattle.water.specs.Water.{Movable}
 use Rattle.numbers.specs.Interval.{Within}
-use Rattle.numbers.specs.Signed.{signed}
+use Rattle.numbers.proofs.Signed.{signed}
 use Rattle.rules.specs.Step.{newHeight}
 
 -- what enters an element is in range

@@ -8,7 +8,7 @@ use mathlib.Core.Option.{none}
 use mathlib.Core.Path.{_≡_, sym, ap, _∙_}
 use Rattle.acceptance.proofs.Checking.{CheckedTells, checked-tells}
 use Rattle.acceptance.proofs.SoundDescription as sound
-use Rattle.acceptance.specs.AcceptingLaws.{Accepts, burdensIn, cause-accepts, header-outside, header-within}
+use Rattle.acceptance.proofs.AcceptingLaws.{Accepts, burdensIn, cause-accepts, header-outside, header-within}
 use Rattle.acceptance.specs.Lent.{descriptionOf, progressAt}
 use Rattle.acceptance.specs.declared.causes.Checked.the-variants.{Sound}
 use Rattle.numbers.specs.Arrays.{firstPlaces}

@@ -2,7 +2,7 @@ use native.Mathlib.Omega.{arith}
 use lib.ListN.{length}
 use mathlib.Core.Path.{_≡_, sym, ap, _∙_}
 use Rattle.consolidate.proofs.Program.{whole, elements-few, room-is, result-written, refusal-written}
-use Rattle.key.specs.KeyLaws.{key-numbers}
+use Rattle.key.proofs.KeyLaws.{key-numbers}
 use Rattle.rules.specs.Job.{described}
 use Rattle.rules.specs.Key.{key}
 use Rattle.rules.specs.Result.{resultSize}

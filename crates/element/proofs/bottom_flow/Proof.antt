@@ -7,8 +7,9 @@ use mir.Val.{SFits}
 use Rattle.element.specs.Elements.{elementOf}
 use Rattle.laws.specs.Most.{mostFlow}
 use Rattle.element.proofs.FlowsAt.{outward-range}
-use Rattle.numbers.specs.Interval.{Within, within-le, within-pos, within-sub, within-fits}
-use Rattle.numbers.specs.Signed.{signed, sub-parts, up-neg, down-neg, readBack}
+use Rattle.numbers.specs.Interval.{Within}
+use Rattle.numbers.proofs.Interval.{within-le, within-pos, within-sub, within-fits}
+use Rattle.numbers.proofs.Signed.{signed, sub-parts, up-neg, down-neg, readBack}
 use Rattle.rules.specs.Step.{outward}
 use Rattle.element.proofs.bottom_flow.Statement.{statement}
 use Rattle.element.proofs.bottom_flow.Tie as tie

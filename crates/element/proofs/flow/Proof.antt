@@ -6,9 +6,10 @@ use mathlib.Core.Path.{_≡_}
 use mir.Syntax.{w64}
 use mir.Val.{SFits, toZ}
 use Rattle.laws.specs.Most.{mostFlow}
-use Rattle.numbers.specs.Interval.{Within, within-mul, within-quot, within-le, within-pos, within-fits}
+use Rattle.numbers.specs.Interval.{Within}
+use Rattle.numbers.proofs.Interval.{within-mul, within-quot, within-le, within-pos, within-fits}
 use Rattle.numbers.specs.Rounding.{cut}
-use Rattle.numbers.specs.Signed.{signed, readBack, readUnsigned}
+use Rattle.numbers.proofs.Signed.{signed, readBack, readUnsigned}
 use Rattle.rules.specs.Quantities.{stepLimits}
 use Rattle.element.proofs.flow.Statement.{statement}
 use Rattle.element.proofs.flow.Tie as tie

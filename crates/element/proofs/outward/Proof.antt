@@ -4,9 +4,10 @@ use lib.IntN.{ℤ, _-ℤ_}
 use mir.Syntax.{w64}
 use mir.Val.{SFits}
 use Rattle.laws.specs.Most.{mostDifference}
-use Rattle.laws.specs.Spread.{Holds}
-use Rattle.numbers.specs.Interval.{Within, within-sub, within-le, within-fits}
-use Rattle.numbers.specs.Signed.{readBack}
+use Rattle.laws.specs.Faces.{Holds}
+use Rattle.numbers.specs.Interval.{Within}
+use Rattle.numbers.proofs.Interval.{within-sub, within-le, within-fits}
+use Rattle.numbers.proofs.Signed.{readBack}
 use Rattle.rules.specs.Quantities.{mostHeadPressure}
 use Rattle.rules.specs.Step.{outward}
 use Rattle.element.proofs.outward.Statement.{statement}

@@ -1,6 +1,6 @@
 use borrow.Author.Needs.{needs}
 use mathlib.Core.Path.{sym}
-use Rattle.numbers.specs.LittleEndian.{field-one}
+use Rattle.numbers.proofs.LittleEndian.{field-one}
 use Rattle.encoding.proofs.byte.Statement.{statement}
 use Rattle.encoding.proofs.byte.Tie as tie
 

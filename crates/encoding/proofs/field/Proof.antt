@@ -3,7 +3,7 @@ use native.Mathlib.Omega.{arith}
 use lib.ListN.{getD}
 use mathlib.Core.Path.{_≡_, sym}
 use Rattle.numbers.specs.Bytes.{field}
-use Rattle.numbers.specs.LittleEndian.{field-zero, field-lt}
+use Rattle.numbers.proofs.LittleEndian.{field-zero, field-lt}
 use Rattle.encoding.proofs.Reading.{field-down, room}
 use Rattle.encoding.proofs.field.Statement.{statement}
 use Rattle.encoding.proofs.field.Tie as tie

@@ -2,7 +2,7 @@ use Prim.Native.Nat.{ℕ}
 use lib.Seq.{sets}
 use mathlib.Core.Path.{ap, _∙_}
 use Rattle.numbers.specs.Bytes.{bytes}
-use Rattle.numbers.specs.Signed.{readBack}
+use Rattle.numbers.proofs.Signed.{readBack}
 use borrow.Author.Needs.{needs}
 use Rattle.encoding.proofs.put_signed.Statement.{statement}
 use Rattle.encoding.proofs.put_signed.Tie as tie

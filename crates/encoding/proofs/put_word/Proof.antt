@@ -1,7 +1,7 @@
 use native.Mathlib.Omega.{arith}
 use lib.ListN.{length-set}
 use borrow.Author.Needs.{needs}
-use Rattle.encoding.specs.Stores.{eight-stores}
+use Rattle.encoding.proofs.Stores.{eight-stores}
 use Rattle.encoding.proofs.put_word.Statement.{statement}
 use Rattle.encoding.proofs.put_word.Tie as tie
 

@@ -4,7 +4,7 @@ use borrow.Author.Needs.{needs}
 use lib.ListN.{length}
 use mathlib.Core.Path.{_≡_, refl, sym}
 use Rattle.numbers.specs.Arrays.{filled}
-use Rattle.numbers.specs.Filled.{filled-zero, filled-store, filled-done}
+use Rattle.numbers.proofs.Filled.{filled-zero, filled-store, filled-done}
 use Rattle.numbers.specs.Bytes.{column}
 use Rattle.encoding.proofs.Reading.{strides}
 use Rattle.encoding.proofs.read_column.Statement.{statement}

@@ -6,7 +6,7 @@ use mathlib.Core.Path.{_≡_, refl}
 use mir.Syntax.{w64}
 use mir.Val.{SFits}
 use Rattle.numbers.specs.Integers.{up, down, signedField}
-use Rattle.numbers.specs.Signed.{signed, one-sided, sub-parts, natAbs-parts, fits-down, readBack, ltZ-true, ltZ-false, cast-fits}
+use Rattle.numbers.proofs.Signed.{signed, one-sided, sub-parts, natAbs-parts, fits-down, readBack, ltZ-true, ltZ-false, cast-fits}
 use Rattle.encoding.proofs.signed_field.Statement.{statement}
 use Rattle.encoding.proofs.signed_field.Tie as tie
 

@@ -5,8 +5,8 @@ use lib.IntN.{ℤ, pos, negsuc, _-ℤ_}
 use mathlib.Core.Path.{_≡_, sym, _∙_}
 use mir.Syntax.{w64}
 use mir.Val.{SFits, toZ}
-use Rattle.numbers.specs.Signed.{signed, sub-parts, one-sided, readBack, readUnsigned}
-use Rattle.encoding.specs.Signed.{signedNumber-low, signedNumber-high}
+use Rattle.numbers.proofs.Signed.{signed, sub-parts, one-sided, readBack, readUnsigned}
+use Rattle.encoding.proofs.Signed.{signedNumber-low, signedNumber-high}
 use Rattle.encoding.proofs.signed_number.Statement.{statement}
 use Rattle.encoding.proofs.signed_number.Tie as tie
 

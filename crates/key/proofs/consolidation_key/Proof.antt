@@ -5,16 +5,16 @@ use lib.ListN.{length}
 use mathlib.Core.Bool.{true}
 use mathlib.Core.List.{List}
 use mathlib.Core.Path.{_≡_, refl, sym, ap, subst, _∙_}
-use Rattle.claims.specs.Opened.{opened}
-use Rattle.job.specs.Pairs.{Blank, Pairs}
-use Rattle.key.specs.KeyLaws.{key-refused, opened-layer, opened-clock, opened-long, end-and-budget, key-run}
+use Rattle.claims.proofs.Opened.{opened}
+use Rattle.job.specs.Pairs.{Pairs}
+use Rattle.key.proofs.KeyLaws.{key-refused, opened-layer, opened-clock, opened-long, end-and-budget, key-run}
 use Rattle.lent.specs.Burdens.{burdensIn}
-use Rattle.numbers.specs.Arrays.{zeros, filled}
-use Rattle.opening.specs.Opened.{openedJob, leftDescription, leftBurden}
-use Rattle.opening.specs.OpenedLaws.{opened-refused, opened-done, opened-header, opened-record, opened-burden}
+use Rattle.numbers.specs.Arrays.{zeros}
+use Rattle.opening.specs.Opened.{openedJob, leftDescription}
+use Rattle.opening.proofs.OpenedLaws.{opened-refused, opened-done, opened-header, opened-record, opened-burden}
 use Rattle.opening.specs.declared.Opened.{Opened}
-use Rattle.result.specs.ResultLaws.{number-is, buffer-is}
-use Rattle.rules.specs.Job.{described, countsOf, frameOf}
+use Rattle.result.proofs.ResultLaws.{number-is, buffer-is}
+use Rattle.rules.specs.Job.{countsOf, frameOf}
 use Rattle.rules.specs.Key.{runToResult, key}
 use Rattle.rules.specs.Opening.{openedRecord, opening}
 use Rattle.rules.specs.Quantities.{clockLimits, budgetLimits}

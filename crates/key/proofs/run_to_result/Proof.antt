@@ -3,12 +3,12 @@ use borrow.Author.Needs.{needs}
 use lib.ListN.{length}
 use mathlib.Core.Bool.{true}
 use mathlib.Core.List.{List}
-use mathlib.Core.Path.{_≡_, refl, sym, ap, subst, _∙_}
-use Rattle.key.specs.KeyLaws.{no-room, room-enough}
-use Rattle.key.specs.Layers.{ended-layer}
-use Rattle.lent.specs.Standing.{counted}
+use mathlib.Core.Path.{_≡_, sym, ap, subst, _∙_}
+use Rattle.key.proofs.KeyLaws.{no-room, room-enough}
+use Rattle.key.proofs.Layers.{ended-layer}
+use Rattle.lent.proofs.Standing.{counted}
 use Rattle.numbers.specs.Arrays.{overlaid}
-use Rattle.result.specs.ResultLaws.{number-is, buffer-is}
+use Rattle.result.proofs.ResultLaws.{number-is, buffer-is}
 use Rattle.rules.specs.Calls.{Ending, endedRun}
 use Rattle.rules.specs.Job.{countsOf}
 use Rattle.rules.specs.Record.{soilOf, layerOf, recordOf, withParts, isLayer}

@@ -2,16 +2,16 @@ use borrow.Author.Tests.{not-true, not-false}
 use lib.IntN.{ℤ, pos}
 use lib.ListN.{getD}
 use native.Mathlib.Omega.{arith}
-use Prim.Native.Nat.{ℕ, _-_}
+use Prim.Native.Nat.{_-_}
 use mathlib.Core.List.{List}
 use mathlib.Core.Path.{_≡_, sym, ap, _∙_}
 use mir.Syntax.{w64}
 use mir.Val.{ofZ, toZ}
 use Rattle.layer_step.proofs.MovingAt.{lowest, above, stays-now, movable, movable-as, stays-as, filled-as, gives-leaves, gives-flows, keeps, moves-on, stays-positive, first-flow, last-flow, water-is}
-use Rattle.numbers.specs.Signed.{readBack}
+use Rattle.numbers.proofs.Signed.{readBack}
 use Rattle.layer_step.specs.Moving.{flowsIn, newHeights, staysBetween}
 use Rattle.numbers.specs.Arrays.{overlaid, filled, everyIndex}
-use Rattle.numbers.specs.Interval.{within-fits}
+use Rattle.numbers.proofs.Interval.{within-fits}
 use Rattle.numbers.specs.Lists.{firstOr, lastOr}
 use Rattle.water.specs.Water.{heightAfter, staysAt, Movable}
 use borrow.Author.Needs.{needs}

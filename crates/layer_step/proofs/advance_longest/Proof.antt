@@ -1,14 +1,11 @@
-use Prim.Native.Nat.{ℕ, zero, suc, _≤_, _<_}
-use lib.IntN.{ℤ}
+use Prim.Native.Nat.{_≤_, _<_}
 use native.Mathlib.Omega.{arith}
 use native.Mathlib.Nat.{le-trans}
 use borrow.Author.Needs.{needs}
-use mathlib.Core.List.{List}
-use mathlib.Core.Path.{_≡_, refl, sym, ap, _∙_}
-use Rattle.laws.specs.Longest.{greatest-most}
+use mathlib.Core.Path.{_≡_, sym, _∙_}
+use Rattle.laws.proofs.Longest.{greatest-most}
 use Rattle.layer_step.proofs.MovingAt.{none-taken, off-curve, on-curve}
-use Rattle.layer_step.specs.declared.Moved.the-variants.{Flows, Leaves}
-use Rattle.numbers.specs.Signed.{readBack}
+use Rattle.numbers.proofs.Signed.{readBack}
 use Rattle.rules.specs.Quantities.{stepLimits}
 use Rattle.step_length.specs.Reach.{longestWithin}
 use Rattle.layer_step.proofs.advance_longest.Statement.{statement}

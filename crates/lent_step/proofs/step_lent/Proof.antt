@@ -1,7 +1,7 @@
 use mathlib.Core.Bool.{true}
 use mathlib.Core.Path.{_≡_, refl}
-use Rattle.lent.specs.Reads.{stands-held}
-use Rattle.lent.specs.Standing.{counted, weighted, solid, soil}
+use Rattle.lent.proofs.LayerReads.{stands-held}
+use Rattle.lent.proofs.Standing.{counted, weighted, solid, soil}
 use Rattle.numbers.specs.Arrays.{zeros}
 use Rattle.rules.specs.Record.{soilOf, layerOf, recordOf, isLayer}
 use Rattle.rules.specs.declared.record.Record.{Record}

@@ -9,23 +9,25 @@ use mathlib.Core.Path.{_≡_, refl, sym, ap, subst, _∙_}
 use mir.Syntax.{w64}
 use mir.Val.{SFits}
 use Rattle.lent_step.specs.Answers.{stepAnswered}
-use Rattle.lent_step.specs.Read.{ReadAs, lentOf, lent-is, lent-read}
+use Rattle.lent_step.specs.Read.{ReadAs}
+use Rattle.lent_step.proofs.Read.{lentOf, lent-is, lent-read}
 use Rattle.lent_step.specs.declared.Stepped.{Stepped}
-use Rattle.lent.specs.CallLaws.{on-layer, refused-on-layer}
+use Rattle.lent.proofs.CallLaws.{on-layer, refused-on-layer}
 use Rattle.lent.specs.Progress.{later}
-use Rattle.lent.specs.Reads.{readable, waters-most, limited, bounds-most, steepness-range, too-long-is, flows, flows-are, leaves-is, stepped-is}
-use Rattle.lent.specs.Standing.{site-is, state-is, counted}
+use Rattle.lent.proofs.LayerReads.{readable, waters-most, limited, bounds-most, steepness-range, too-long-is, flows, flows-are, leaves-is, stepped-is}
+use Rattle.lent.proofs.Standing.{site-is, state-is, counted}
 use Rattle.lent.specs.Worked.{sensitivitiesIn, leastWaterIn, mostWaterIn, resistancesIn}
-use Rattle.lent.specs.StepLaws.{step-too-long, step-off-curve, step-taken, within-as, outer-flows}
+use Rattle.lent.proofs.StepLaws.{step-too-long, step-off-curve, step-taken, within-as, outer-flows}
 use Rattle.element.specs.Elements.{Readable}
 use Rattle.layer_step.proofs.MovingAt.{keeps, moves-on, leaves-off, flows-on}
 use Rattle.layer_step.specs.Moving.{flowsIn, staysBetween, movedBy, movedIn, waterBy, waterIn}
 use Rattle.numbers.specs.Arrays.{zeros, overlaid}
 use Rattle.rules.specs.declared.quantities.Face.{Face}
-use Rattle.numbers.specs.Interval.{Within, within-add, within-sub, within-le, within-fits}
+use Rattle.numbers.specs.Interval.{Within}
+use Rattle.numbers.proofs.Interval.{within-add, within-sub, within-le, within-fits}
 use Rattle.numbers.specs.Lists.{firstOr, lastOr}
-use Rattle.numbers.specs.Searches.{passed}
-use Rattle.numbers.specs.Signed.{readBack}
+use Rattle.numbers.proofs.Searches.{passed}
+use Rattle.numbers.proofs.Signed.{readBack}
 use Rattle.step_length.specs.Reach.{Limited, isTooLong}
 use Rattle.rules.proofs.Limits.{within-parts}
 use Rattle.rules.specs.Calls.{called}

@@ -5,7 +5,7 @@ use mathlib.Core.Path.{_≡_, refl, sym, ap, _∙_}
 use Rattle.numbers.specs.Arrays.{zeros}
 use Rattle.job.specs.Pairs.{Pairs}
 use Rattle.opening.specs.Opened.{openedJob, leftDescription}
-use Rattle.opening.specs.OpenedLaws.{opened-blank, opened-done, opened-record}
+use Rattle.opening.proofs.OpenedLaws.{opened-blank, opened-done, opened-record}
 use Rattle.opening.specs.declared.Opened.the-variants.{Accepted}
 use Rattle.rules.specs.Job.{countsOf}
 use Rattle.rules.specs.Opening.{opening, openingNumbers}

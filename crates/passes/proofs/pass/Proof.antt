@@ -7,18 +7,18 @@ use lib.Dec.{eqb}
 use lib.IntN.{ℤ}
 use mathlib.Core.Bool.{true, false, not}
 use mathlib.Core.List.{List}
-use mathlib.Core.Path.{_≡_, refl, sym, ap, subst, _∙_}
+use mathlib.Core.Path.{_≡_, sym, ap, subst, _∙_}
 use mir.Syntax.{w64}
 use mir.Val.{toZ, ofZ}
 use Rattle.layer.specs.Held.{Held, heldOf, excessAt, Stands}
 use Rattle.layer_step.specs.declared.Longest.the-variants.{Taken}
 use Rattle.lent.specs.Progress.{loaded, later}
-use Rattle.lent.specs.Reads.{stands-held}
-use Rattle.lent.specs.Standing.{site-is, counted}
+use Rattle.lent.proofs.LayerReads.{stands-held}
+use Rattle.lent.proofs.Standing.{site-is, counted}
 use Rattle.lent.specs.Worked.{heldIn, WorkedOut, excessesIn, resistancesIn}
 use Rattle.numbers.specs.Arrays.{filled}
 use Rattle.numbers.specs.Lists.{greatest}
-use Rattle.numbers.specs.Signed.{readBack}
+use Rattle.numbers.proofs.Signed.{readBack}
 use Rattle.rules.specs.Layer.{Site}
 use Rattle.rules.specs.Load.{loadAt, nextTime, withLoad}
 use Rattle.rules.specs.Quantities.{stepLimits, pressure}

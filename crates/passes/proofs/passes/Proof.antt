@@ -11,12 +11,11 @@ use mathlib.Core.Bool.{true, false}
 use mathlib.Core.List.{List}
 use mathlib.Core.Path.{_≡_, refl, sym, ap, _∙_}
 use Rattle.layer.proofs.SegmentsAt.{segments-length}
-use Rattle.lent.specs.Standing.{counted}
+use Rattle.lent.proofs.Standing.{counted}
 use Rattle.layer.specs.Held.{excessAt, resistanceAt}
 use Rattle.lent.specs.Worked.{heldIn, WorkedOut}
-use Rattle.rules.specs.Calls.{Ending, endedRun}
+use Rattle.rules.specs.Calls.{endedRun}
 use Rattle.rules.specs.Record.{soilOf, layerOf, recordOf, withParts, isLayer}
-use Rattle.rules.specs.declared.answers.Ended.{Ended}
 use Rattle.rules.specs.declared.answers.Stop.{Stop}
 use Rattle.rules.specs.declared.record.Progress.{Progress}
 use Rattle.rules.specs.declared.record.Record.{Record}

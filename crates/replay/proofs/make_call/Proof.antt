@@ -1,6 +1,6 @@
 use borrow.Author.Needs.{needs}
 use mathlib.Core.Path.{ap, _∙_}
-use Rattle.replay.specs.WordLaws.{call-loads, call-steps, call-runs}
+use Rattle.replay.proofs.WordLaws.{call-loads, call-steps, call-runs}
 use Rattle.rules.specs.Calls.{called}
 use Rattle.replay.proofs.make_call.Statement.{statement}
 use Rattle.replay.proofs.make_call.Tie as tie

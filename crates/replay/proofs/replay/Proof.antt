@@ -1,6 +1,6 @@
 use borrow.Author.Needs.{needs}
-use Rattle.replay.specs.Claim.{claimed}
-use Rattle.replay.specs.ReplayLaws.{replay-done, replay-not-done, ran-not-done, refused-not-done}
+use Rattle.replay.proofs.Claim.{claimed}
+use Rattle.replay.proofs.ReplayLaws.{replay-done, replay-not-done, ran-not-done, refused-not-done}
 use Rattle.replay.proofs.replay.Statement.{statement}
 use Rattle.replay.proofs.replay.Tie as tie
 

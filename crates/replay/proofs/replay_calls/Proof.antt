@@ -3,8 +3,8 @@ use native.Mathlib.Omega.{arith}
 use borrow.Author.Needs.{needs}
 use lib.ListN.{length}
 use mathlib.Core.Path.{_≡_, refl, _∙_}
-use Rattle.replay.specs.ReplayLaws.{Replays, replays-none, replays-more, replays-all}
-use Rattle.replay.specs.WordLaws.{counted-words}
+use Rattle.replay.proofs.ReplayLaws.{Replays, replays-none, replays-more, replays-all}
+use Rattle.replay.proofs.WordLaws.{counted-words}
 use Rattle.replay.specs.Words.{callCount}
 use Rattle.replay.proofs.replay_calls.Statement.{statement}
 use Rattle.replay.proofs.replay_calls.Tie as tie

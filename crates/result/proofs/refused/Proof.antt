@@ -1,4 +1,4 @@
-use Rattle.answers.specs.Causes.{cause-numbered}
+use Rattle.answers.proofs.Causes.{cause-numbered}
 use borrow.Author.Needs.{needs}
 use Rattle.result.proofs.refused.Statement.{statement}
 use Rattle.result.proofs.refused.Tie as tie

@@ -1,6 +1,6 @@
 use mathlib.Core.Bool.{true}
 use mathlib.Core.Path.{_≡_, refl}
-use Rattle.lent.specs.Standing.{counted, weighted, solid}
+use Rattle.lent.proofs.Standing.{counted, weighted, solid}
 use Rattle.numbers.specs.Arrays.{zeros}
 use Rattle.rules.specs.Record.{isLayer}
 use Rattle.rules.specs.declared.record.Record.{Record}

@@ -7,10 +7,10 @@ use mathlib.Core.Bool.{true}
 use mathlib.Core.Path.{_≡_, ap, _∙_}
 use mir.Syntax.{w64}
 use mir.Val.{SFits}
-use Rattle.lent.specs.Standing.{site-is, state-is, counted, soil}
-use Rattle.lent.specs.StepLaws.{on-soil-as}
-use Rattle.numbers.specs.Signed.{readBack}
-use Rattle.result.specs.ResultLaws.{gone, headed, result-stored}
+use Rattle.lent.proofs.Standing.{site-is, state-is, counted, soil}
+use Rattle.lent.proofs.StepLaws.{on-soil-as}
+use Rattle.numbers.proofs.Signed.{readBack}
+use Rattle.result.proofs.ResultLaws.{gone, headed, result-stored}
 use Rattle.rules.proofs.Limits.{inside-signed}
 use Rattle.rules.specs.Quantities.{levelLimits}
 use Rattle.rules.specs.Record.{soilOf, layerOf, recordOf, isLayer}

@@ -3,8 +3,8 @@ use borrow.Author.Tests.{not-true, not-false}
 use lib.ListN.{length}
 use mathlib.Core.Bool.{true}
 use mathlib.Core.Path.{_≡_, sym, _∙_}
-use Rattle.lent.specs.Standing.{counted}
-use Rattle.result.specs.ResultLaws.{no-layer, short-buffer, result-written, number-is, buffer-is}
+use Rattle.lent.proofs.Standing.{counted}
+use Rattle.result.proofs.ResultLaws.{no-layer, short-buffer, result-written, number-is, buffer-is}
 use Rattle.rules.specs.Record.{isLayer}
 use Rattle.rules.specs.Result.{refusedResult, resultSize}
 use borrow.Author.Needs.{needs}

@@ -3,7 +3,7 @@ use borrow.Author.Tests.{le-ltb}
 use lib.ListN.{length, length-map}
 use mathlib.Core.Path.{_≡_, refl, sym, ap, _∙_}
 use native.Mathlib.Omega.{arith}
-use Rattle.lent.specs.Standing.{counted, weighted, solid}
+use Rattle.lent.proofs.Standing.{counted, weighted, solid}
 use Rattle.numbers.specs.Arrays.{zeros}
 use Rattle.rules.proofs.Limits.{inside}
 use Rattle.rules.specs.Quantities.{clockLimits, budgetLimits}

@@ -4,7 +4,7 @@ use borrow.Author.Needs.{needs}
 use borrow.Author.Tests.{eq-eqb, ne-eqb}
 use mathlib.Core.Bool.{true}
 use mathlib.Core.Path.{_≡_, refl, sym, ap, _∙_}
-use Rattle.lent.specs.Standing.{counted, solid, soil}
+use Rattle.lent.proofs.Standing.{counted, solid, soil}
 use Rattle.numbers.specs.Arrays.{zeros}
 use Rattle.rules.specs.Record.{soilOf, layerOf, recordOf, isLayer}
 use Rattle.rules.specs.declared.record.Record.{Record}

@@ -4,8 +4,8 @@ use borrow.Author.Tests.{not-true, not-false, lt-ltb, le-ltb}
 use lib.Dec.{ltb}
 use mathlib.Core.Bool.{true, false}
 use mathlib.Core.Path.{_≡_, refl, sym, _∙_}
-use Rattle.lent.specs.CallLaws.{in-numbers, not-layer}
-use Rattle.numbers.specs.Searches.{passed}
+use Rattle.lent.proofs.CallLaws.{in-numbers, not-layer}
+use Rattle.numbers.proofs.Searches.{passed}
 use Rattle.rules.proofs.Limits.{within-parts, clock-tells}
 use Rattle.rules.specs.Quantities.{within, clockLimits, budgetLimits}
 use Rattle.rules.specs.Record.{isLayer}

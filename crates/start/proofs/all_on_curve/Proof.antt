@@ -6,7 +6,7 @@ use mathlib.Core.Bool.{Bool}
 use mathlib.Core.List.{List}
 use mathlib.Core.Path.{_≡_, sym, _∙_}
 use Rattle.numbers.specs.Arrays.{everyIndex}
-use Rattle.numbers.specs.Indices.{restPasses, all-rest, index-fails, index-goes, index-ends}
+use Rattle.numbers.proofs.Indices.{restPasses, all-rest, index-fails, index-goes, index-ends}
 use Rattle.rules.specs.Curve.{Point, points, isOn}
 use Rattle.rules.specs.Layer.{skeletonOf, effectiveStress}
 use Rattle.start.proofs.Given.{each-on}

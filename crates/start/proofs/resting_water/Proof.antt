@@ -5,7 +5,7 @@ use borrow.Author.Tests.{not-true, not-false}
 use lib.Dec.{T}
 use mathlib.Core.Bool.{Bool, false}
 use mathlib.Core.Path.{_≡_, sym, ap, _∙_}
-use Rattle.numbers.specs.Searches.{passed}
+use Rattle.numbers.proofs.Searches.{passed}
 use Rattle.rules.specs.Curve.{points}
 use Rattle.rules.specs.Quantities.{waterLimits}
 use Rattle.rules.proofs.Sound.{Compressible, compressible}

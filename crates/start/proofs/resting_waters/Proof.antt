@@ -5,7 +5,7 @@ use borrow.Author.Needs.{needs}
 use mathlib.Core.Option.{some}
 use mathlib.Core.Path.{_≡_, sym, ap, _∙_}
 use Rattle.numbers.specs.Arrays.{filled}
-use Rattle.numbers.specs.Filled.{filled-zero, filled-store}
+use Rattle.numbers.proofs.Filled.{filled-zero, filled-store}
 use Rattle.rules.specs.Curve.{points}
 use Rattle.rules.specs.Layer.{skeletonOf}
 use Rattle.start.specs.Rest.{allOrNone}

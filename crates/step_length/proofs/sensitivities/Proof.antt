@@ -2,7 +2,7 @@ use Prim.Native.Nat.{_-_, _≤_}
 use lib.ListN.{getD}
 use mathlib.Core.Path.{_≡_, sym}
 use Rattle.numbers.specs.Arrays.{filled}
-use Rattle.numbers.specs.Filled.{filled-zero, filled-store, filled-done}
+use Rattle.numbers.proofs.Filled.{filled-zero, filled-store, filled-done}
 use Rattle.rules.specs.Layer as layer
 use native.Mathlib.Omega.{arith}
 use Rattle.step_length.proofs.sensitivities.Statement.{statement}

@@ -4,7 +4,7 @@ use native.Mathlib.Omega.{arith}
 use borrow.Author.Needs.{needs}
 use mathlib.Core.Path.{_∙_}
 use Rattle.laws.specs.Most.{mostFaceResistance}
-use Rattle.laws.specs.Shorten.{divided, undivided}
+use Rattle.laws.proofs.Shorten.{divided, undivided}
 use Rattle.numbers.specs.Rounding.{floor}
 use Rattle.rules.specs.Quantities.{stepLimits}
 use Rattle.step_length.proofs.shorten.Statement.{statement}

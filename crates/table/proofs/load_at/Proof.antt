@@ -2,7 +2,7 @@ use Prim.Native.Nat.{_+_, _-_, _≤_, _<_}
 use native.Mathlib.Omega.{arith}
 use lib.ListN.{getD, drop}
 use mathlib.Core.Path.{_≡_, refl, sym, ap, _∙_}
-use Rattle.numbers.specs.Signed.{signed, readUnsigned}
+use Rattle.numbers.proofs.Signed.{signed, readUnsigned}
 use Rattle.rules.specs.Curve.{points}
 use Rattle.rules.specs.Load.{loadAt}
 use Rattle.rules.specs.Quantities.{pressure}

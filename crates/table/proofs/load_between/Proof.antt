@@ -7,8 +7,9 @@ use mathlib.Core.Path.{_≡_, refl, ap}
 use mir.Syntax.{w64}
 use mir.Val.{SFits, toZ}
 use Rattle.numbers.specs.Rounding.{cut}
-use Rattle.numbers.specs.Signed.{signed, readBack, readUnsigned}
-use Rattle.numbers.specs.Interval.{Within, within-pos, within-le, within-add, within-mul, within-quot, within-fits}
+use Rattle.numbers.proofs.Signed.{signed, readBack, readUnsigned}
+use Rattle.numbers.specs.Interval.{Within}
+use Rattle.numbers.proofs.Interval.{within-pos, within-le, within-add, within-mul, within-quot, within-fits}
 use Rattle.rules.specs.Quantities.{stressLimits, clockLimits}
 use Rattle.table.proofs.Laws.{segmentLoad, segment-stress}
 use Rattle.table.proofs.load_between.Statement.{statement}

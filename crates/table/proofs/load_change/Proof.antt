@@ -4,8 +4,9 @@ use lib.IntN.{ℤ, pos, _-ℤ_}
 use mathlib.Core.Path.{_≡_, refl}
 use mir.Syntax.{w64}
 use mir.Val.{SFits, toZ}
-use Rattle.numbers.specs.Signed.{one-sided, sub-parts, readBack, readUnsigned}
-use Rattle.numbers.specs.Interval.{Within, intervals, within-fits}
+use Rattle.numbers.proofs.Signed.{one-sided, sub-parts, readBack, readUnsigned}
+use Rattle.numbers.specs.Interval.{Within}
+use Rattle.numbers.proofs.Interval.{intervals, within-fits}
 use Rattle.rules.specs.Quantities.{stressLimits}
 use Rattle.table.proofs.load_change.Statement.{statement}
 use Rattle.table.proofs.load_change.Tie as tie

@@ -2,7 +2,7 @@ use Prim.Native.Nat.{ℕ, _<_}
 use native.Mathlib.Omega.{arith}
 use lib.ListN.{length}
 use mathlib.Core.Path.{ap}
-use Rattle.text.specs.Laws.{decimal-one, decimal-more, decimal-longer, put-put, length-put}
+use Rattle.text.proofs.Laws.{decimal-one, decimal-more, decimal-longer, put-put, length-put}
 use borrow.Fn.Kinds.{In}
 use borrow.Fn.PlainCycle.{Measures, is, falls, and}
 use Rattle.text.proofs.put_decimal.Reads as put-decimal

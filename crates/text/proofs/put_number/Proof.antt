@@ -1,7 +1,7 @@
 use native.Mathlib.Omega.{arith}
 use borrow.Author.Needs.{needs}
 use Rattle.text.specs.Text.{spaced}
-use Rattle.text.specs.Laws.{length-decimal, put-put, length-put}
+use Rattle.text.proofs.Laws.{length-decimal, put-put, length-put}
 use Rattle.text.proofs.put_number.Statement.{statement}
 use Rattle.text.proofs.put_number.Tie as tie
 

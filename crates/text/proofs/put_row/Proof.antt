@@ -4,7 +4,7 @@ use denote.Ref.{now}
 use lib.ListN.{take}
 use mathlib.Core.Path.{_≡_}
 use Rattle.text.specs.Text.{row, Put}
-use Rattle.text.specs.Laws.{put-nothing, put-put, length-put, row-more}
+use Rattle.text.proofs.Laws.{put-nothing, put-put, length-put, row-more}
 use Rattle.text.proofs.put_row.Statement.{statement}
 use Rattle.text.proofs.put_row.Tie as tie
 

@@ -5,9 +5,9 @@ use lib.IntN.{pos}
 use lib.ListN.{length}
 use lib.Signed.{_<ℤ_, _≤ℤ_}
 use mathlib.Core.Path.{ap}
-use Rattle.numbers.specs.Signed.{readBack, ltZ-true, ltZ-false, cast-fits}
+use Rattle.numbers.proofs.Signed.{readBack, ltZ-true, ltZ-false, cast-fits}
 use Rattle.text.specs.Text.{decimal}
-use Rattle.text.specs.Laws.{signed-negative, signed-positive, put-put, length-put}
+use Rattle.text.proofs.Laws.{signed-negative, signed-positive, put-put, length-put}
 use Rattle.text.proofs.put_signed.Statement.{statement}
 use Rattle.text.proofs.put_signed.Tie as tie
 

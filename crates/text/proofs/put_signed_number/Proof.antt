@@ -1,8 +1,8 @@
 use native.Mathlib.Omega.{arith}
 use borrow.Author.Needs.{needs}
-use Rattle.numbers.specs.Signed.{readBack}
+use Rattle.numbers.proofs.Signed.{readBack}
 use Rattle.text.specs.Text.{signedSpaced}
-use Rattle.text.specs.Laws.{length-signed, put-put, length-put}
+use Rattle.text.proofs.Laws.{length-signed, put-put, length-put}
 use Rattle.text.proofs.put_signed_number.Statement.{statement}
 use Rattle.text.proofs.put_signed_number.Tie as tie
 

@@ -6,7 +6,7 @@ use mathlib.Core.Path.{_≡_}
 use mir.Syntax.{w64}
 use mir.Val.{SFits}
 use Rattle.numbers.specs.Integers.{up, down}
-use Rattle.numbers.specs.Signed.{signed, one-sided, sub-parts, natAbs-parts, fits-down, readBack, cast-fits}
+use Rattle.numbers.proofs.Signed.{signed, one-sided, sub-parts, natAbs-parts, fits-down, readBack, cast-fits}
 use Rattle.text.proofs.size.Statement.{statement}
 use Rattle.text.proofs.size.Tie as tie
 

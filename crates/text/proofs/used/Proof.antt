@@ -5,7 +5,7 @@ use lib.ListN.{length, take}
 use lib.Seq.{take-length}
 use mathlib.Core.Path.{_≡_, ap, _∙_}
 use Rattle.text.specs.Text.{trimmed}
-use Rattle.text.specs.Laws.{trimmed-less, trimmed-all}
+use Rattle.text.proofs.Laws.{trimmed-less, trimmed-all}
 use Rattle.text.proofs.used.Statement.{statement}
 use Rattle.text.proofs.used.Tie as tie
 

@@ -1,6 +1,6 @@
 use native.Mathlib.Omega.{arith}
 use borrow.Author.Needs.{needs}
-use Rattle.numbers.specs.Signed.{readBack, readUnsigned}
+use Rattle.numbers.proofs.Signed.{readBack, readUnsigned}
 use Rattle.water.proofs.between.Statement.{statement}
 use Rattle.water.proofs.between.Tie as tie
 

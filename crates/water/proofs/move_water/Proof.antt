@@ -13,9 +13,10 @@ use Rattle.water.specs.Water.{newWater, heightAfter, Movable}
 use Rattle.water.proofs.WaterAt.{entering, new-height}
 use Rattle.laws.specs.Most.{mostFlow}
 use Rattle.numbers.specs.Arrays.{filled}
-use Rattle.numbers.specs.Filled.{filled-zero, filled-store, filled-done, getD-filled-past}
-use Rattle.numbers.specs.Interval.{Within, within-fits}
-use Rattle.numbers.specs.Signed.{readBack, cast-fits}
+use Rattle.numbers.proofs.Filled.{filled-zero, filled-store, filled-done, getD-filled-past}
+use Rattle.numbers.specs.Interval.{Within}
+use Rattle.numbers.proofs.Interval.{within-fits}
+use Rattle.numbers.proofs.Signed.{readBack, cast-fits}
 use Rattle.water.proofs.move_water.Statement.{statement}
 use Rattle.water.proofs.move_water.Tie as tie
 

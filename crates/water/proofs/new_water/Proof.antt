@@ -6,8 +6,9 @@ use mathlib.Core.Path.{_≡_}
 use mir.Syntax.{w64}
 use mir.Val.{SFits, toZ}
 use Rattle.laws.specs.Most.{mostFlow}
-use Rattle.numbers.specs.Interval.{Within, within-add, within-sub, within-le, within-pos, within-fits}
-use Rattle.numbers.specs.Signed.{readBack, readUnsigned}
+use Rattle.numbers.specs.Interval.{Within}
+use Rattle.numbers.proofs.Interval.{within-add, within-sub, within-le, within-pos, within-fits}
+use Rattle.numbers.proofs.Signed.{readBack, readUnsigned}
 use Rattle.rules.specs.Quantities.{waterLimits}
 use Rattle.water.proofs.new_water.Statement.{statement}
 use Rattle.water.proofs.new_water.Tie as tie

@@ -13,9 +13,10 @@ use Rattle.water.specs.Water.{between, staysAt, Movable}
 use Rattle.water.proofs.WaterAt.{entering}
 use Rattle.laws.specs.Most.{mostFlow}
 use Rattle.numbers.specs.Arrays.{everyIndex}
-use Rattle.numbers.specs.Indices.{restPasses, all-rest, index-fails, index-goes, index-ends}
-use Rattle.numbers.specs.Interval.{Within, within-fits}
-use Rattle.numbers.specs.Signed.{readBack}
+use Rattle.numbers.proofs.Indices.{restPasses, all-rest, index-fails, index-goes, index-ends}
+use Rattle.numbers.specs.Interval.{Within}
+use Rattle.numbers.proofs.Interval.{within-fits}
+use Rattle.numbers.proofs.Signed.{readBack}
 use Rattle.water.proofs.stays_between.Statement.{statement}
 use Rattle.water.proofs.stays_between.Tie as tie
 

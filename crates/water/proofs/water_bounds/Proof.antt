@@ -3,7 +3,7 @@ use lib.ListN.{getD}
 use mathlib.Core.Path.{_≡_, sym}
 use Rattle.laws.specs.Bounds.{lowestWater, highestWater}
 use Rattle.numbers.specs.Arrays.{filled}
-use Rattle.numbers.specs.Filled.{filled-zero, filled-store, filled-done}
+use Rattle.numbers.proofs.Filled.{filled-zero, filled-store, filled-done}
 use native.Mathlib.Omega.{arith}
 use Rattle.water.proofs.water_bounds.Statement.{statement}
 use Rattle.water.proofs.water_bounds.Tie as tie

@@ -7,7 +7,7 @@ use Rattle.acceptance.proofs.FieldLaws.{FieldsTell, fields-tell}
 use Rattle.acceptance.specs.Lent.{descriptionOf}
 use Rattle.acceptance.specs.declared.causes.Checked.the-variants.{Sound}
 use Rattle.acceptance.specs.declared.fields.Fields.the-variants.{Within}
-use Rattle.laws.specs.SoundHeader.{SoundHeader, kept-header}
+use Rattle.laws.proofs.SoundHeader.{SoundHeader, kept-header}
 use Rattle.rules.specs.Curve.{compressibilitySound, conductivitySound}
 use Rattle.rules.specs.Job.{Description, jobSite}
 use Rattle.rules.specs.Load.{tableSound}

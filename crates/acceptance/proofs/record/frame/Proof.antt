@@ -1,5 +1,5 @@
 use borrow.Author.Needs.{needs}
-use Rattle.numbers.specs.Signed.{signed}
+use Rattle.numbers.proofs.Signed.{signed}
 use Rattle.rules.specs.Job.{frameOf}
 use Rattle.rules.specs.Layer.{topPressure}
 use Rattle.acceptance.proofs.record.frame.Statement.{statement}

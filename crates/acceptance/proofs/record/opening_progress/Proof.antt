@@ -1,6 +1,6 @@
 use native.Mathlib.Omega.{arith}
 use borrow.Author.Needs.{needs}
-use Rattle.numbers.specs.Signed.{readUnsigned}
+use Rattle.numbers.proofs.Signed.{readUnsigned}
 use Rattle.acceptance.proofs.record.opening_progress.Statement.{statement}
 use Rattle.acceptance.proofs.record.opening_progress.Tie as tie
 

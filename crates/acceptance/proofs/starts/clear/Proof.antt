@@ -2,7 +2,7 @@ use Prim.Native.Nat.{_-_, _≤_}
 use native.Mathlib.Omega.{arith}
 use mathlib.Core.Path.{_≡_, refl, sym}
 use Rattle.numbers.specs.Arrays.{filled}
-use Rattle.numbers.specs.Filled.{filled-zero, filled-store, filled-done}
+use Rattle.numbers.proofs.Filled.{filled-zero, filled-store, filled-done}
 use Rattle.acceptance.proofs.starts.clear.Statement.{statement}
 use Rattle.acceptance.proofs.starts.clear.Tie as tie
 

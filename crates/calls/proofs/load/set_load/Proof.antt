@@ -6,9 +6,9 @@ use lib.ListN.{length, length-map}
 use mathlib.Core.Bool.{true}
 use mathlib.Core.List.{_∷_, []}
 use mathlib.Core.Path.{_≡_, refl, sym, ap, _∙_}
-use Rattle.lent.specs.CallLaws.{in-numbers, not-layer, on-layer, refused-on-layer, load-outside, load-set, own-water}
+use Rattle.lent.proofs.CallLaws.{in-numbers, not-layer, on-layer, refused-on-layer, load-outside, load-set, own-water}
 use Rattle.lent.specs.Progress.{loaded}
-use Rattle.lent.specs.Standing.{counted}
+use Rattle.lent.proofs.Standing.{counted}
 use Rattle.rules.proofs.Limits.{pressure-tells}
 use Rattle.rules.specs.Load.{withLoad}
 use Rattle.rules.specs.Quantities.{pressure}

@@ -5,7 +5,7 @@ use mathlib.Core.List.{List}
 use mathlib.Core.Path.{_≡_, sym, ap, _∙_}
 use Rattle.lent_step.specs.Answers.{stepAnswered}
 use Rattle.lent_step.specs.declared.Stepped.{Stepped}
-use Rattle.lent.specs.StepLaws.{step-refused}
+use Rattle.lent.proofs.StepLaws.{step-refused}
 use Rattle.rules.specs.Calls.{called}
 use Rattle.rules.specs.declared.answers.Answer.the-variants.{Done}
 use Rattle.rules.specs.declared.answers.Answered.{Answered}

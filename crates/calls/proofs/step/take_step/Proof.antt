@@ -4,10 +4,10 @@ use borrow.Author.Needs.{needs}
 use borrow.Author.Tests.{not-true, not-false}
 use mathlib.Core.Bool.{true}
 use mathlib.Core.Path.{_≡_, sym, _∙_}
-use Rattle.lent.specs.CallLaws.{in-numbers, not-layer, refused-on-layer}
-use Rattle.lent.specs.Standing.{state-is}
-use Rattle.lent.specs.StepLaws.{step-length-outside, clock-outside}
-use Rattle.numbers.specs.Searches.{passed}
+use Rattle.lent.proofs.CallLaws.{in-numbers, not-layer, refused-on-layer}
+use Rattle.lent.proofs.Standing.{state-is}
+use Rattle.lent.proofs.StepLaws.{step-length-outside, clock-outside}
+use Rattle.numbers.proofs.Searches.{passed}
 use Rattle.rules.proofs.Limits.{within-parts, clock-tells}
 use Rattle.rules.specs.Quantities.{within, stepLimits}
 use Rattle.rules.specs.Record.{recordState, isLayer}

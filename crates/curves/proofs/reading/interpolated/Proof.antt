@@ -2,7 +2,7 @@ use Prim.Native.Nat.{ℕ, _+_, _-_, _*_, _≤_}
 use native.Mathlib.Nat.{mul-le-mul}
 use mathlib.Core.Path.{_≡_, ap}
 use Rattle.numbers.specs.Interpolation.{distance, share}
-use Rattle.numbers.specs.Share.{interpolates}
+use Rattle.numbers.proofs.Shares.{interpolates}
 use Rattle.rules.specs.Curve.{interpolated}
 use Rattle.rules.specs.Quantities.{stressLimits, voidLimits}
 use native.Mathlib.Omega.{arith}

@@ -4,7 +4,7 @@ use lib.ListN.{length}
 use mathlib.Core.Bool.{false}
 use mathlib.Core.Path.{_≡_, sym, _∙_}
 use Rattle.rules.specs.Job.{headerLength}
-use Rattle.job.specs.FramingLaws.{isShort, isOther, isOutside, isWrong, by-tests, chosen, long, kept}
+use Rattle.job.proofs.FramingLaws.{isShort, isOther, isOutside, isWrong, by-tests, chosen, long, kept}
 use Rattle.job.proofs.framing.frame.Statement.{statement}
 use Rattle.job.proofs.framing.frame.Tie as tie
 

@@ -3,11 +3,10 @@ use native.Mathlib.Omega.{arith}
 use Prim.Native.Nat.{ℕ, _+_, _*_}
 use lib.ListN.{length}
 use mathlib.Core.List.{List}
-use mathlib.Core.Path.{_≡_, refl, sym, ap, _∙_}
-use Rattle.numbers.specs.Filled.{length-zeros}
+use mathlib.Core.Path.{_≡_, refl, ap, _∙_}
+use Rattle.numbers.proofs.Filled.{length-zeros}
 use Rattle.job.proofs.Counts.{Counted, counted}
 use Rattle.job.proofs.Reading.{firsts-read, conductivity-at, table-at, second-at}
-use Rattle.job.specs.Pairs.{Blank}
 use Rattle.rules.specs.Job.{described, seconds}
 use Rattle.rules.specs.declared.job.Header.{Header}
 use Rattle.job.proofs.pairs.read_pairs.Statement.{statement}

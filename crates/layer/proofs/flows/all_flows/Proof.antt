@@ -1,7 +1,7 @@
 use native.Mathlib.Omega.{arith}
 use mathlib.Core.Path.{_∙_}
-use Rattle.numbers.specs.Interval.{within-fits}
-use Rattle.numbers.specs.Signed.{readBack}
+use Rattle.numbers.proofs.Interval.{within-fits}
+use Rattle.numbers.proofs.Signed.{readBack}
 use borrow.Author.Needs.{needs}
 use Rattle.layer.proofs.flows.all_flows.Statement.{statement}
 use Rattle.layer.proofs.flows.all_flows.Tie as tie

@@ -11,9 +11,10 @@ use Rattle.element.specs.Elements.{Readable, flowAbove}
 use Rattle.laws.specs.Most.{mostDifference, mostFaceResistance}
 use Rattle.element.proofs.FlowsAt.{outward-same, flow-inner, flow-top}
 use Rattle.numbers.specs.Arrays.{filled}
-use Rattle.numbers.specs.Filled.{filled-zero, filled-store}
-use Rattle.numbers.specs.Interval.{Within, within-sub, within-le, within-fits}
-use Rattle.numbers.specs.Signed.{readBack}
+use Rattle.numbers.proofs.Filled.{filled-zero, filled-store}
+use Rattle.numbers.specs.Interval.{Within}
+use Rattle.numbers.proofs.Interval.{within-sub, within-le, within-fits}
+use Rattle.numbers.proofs.Signed.{readBack}
 use Rattle.layer.proofs.flows.flows_above.Statement.{statement}
 use Rattle.layer.proofs.flows.flows_above.Tie as tie
 

@@ -2,8 +2,9 @@ use Prim.Native.Nat.{ℕ, _+_, _*_, _≤_}
 use lib.IntN.{pos, _+ℤ_, _-ℤ_}
 use mathlib.Core.Path.{_≡_, ap, _∙_}
 use Rattle.numbers.specs.Rounding.{ceil}
-use Rattle.numbers.specs.Interval.{Within, intervals}
-use Rattle.numbers.specs.Signed.{one-sided}
+use Rattle.numbers.specs.Interval.{Within}
+use Rattle.numbers.proofs.Interval.{intervals}
+use Rattle.numbers.proofs.Signed.{one-sided}
 use Rattle.rules.specs.Quantities.{stressLimits, waterLimits, pressure}
 use Rattle.rules.specs.Curve.{points, curveAt, valueOf}
 use Rattle.rules.specs.Layer.{skeletonOf, effectiveStress, hydraulicConductivity, excessPressure, resistance}

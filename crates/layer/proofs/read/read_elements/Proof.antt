@@ -2,10 +2,10 @@ use Prim.Native.Nat.{_-_, _≤_, _<_}
 use mathlib.Core.Path.{_≡_, sym, ap, _∙_}
 use Rattle.layer.proofs.SegmentsAt.{segments-none, segments-store}
 use Rattle.layer.specs.Segments.{Segments}
-use Rattle.layer.specs.Held.{Held, heldOf, excessAt, resistanceAt}
+use Rattle.layer.specs.Held.{heldOf, excessAt, resistanceAt}
 use Rattle.numbers.specs.Arrays.{filled}
-use Rattle.numbers.specs.Filled.{filled-zero, filled-store, filled-done}
-use Rattle.numbers.specs.Signed.{readBack}
+use Rattle.numbers.proofs.Filled.{filled-zero, filled-store, filled-done}
+use Rattle.numbers.proofs.Signed.{readBack}
 use Rattle.rules.specs.Record.{soilOf}
 use Rattle.rules.specs.declared.quantities.Pressure.{Pressure}
 use native.Mathlib.Omega.{arith}

@@ -4,7 +4,7 @@ use Rattle.laws.specs.Most.{mostTotalWeight}
 use Rattle.layer.specs.Weights.{weightFrom, burdenAt}
 use Rattle.layer.proofs.WeightsAt.{weight-step, burden-is}
 use Rattle.numbers.specs.Arrays.{filled}
-use Rattle.numbers.specs.Filled.{filled-zero, filled-store, filled-done}
+use Rattle.numbers.proofs.Filled.{filled-zero, filled-store, filled-done}
 use native.Mathlib.Omega.{arith}
 use borrow.Author.Needs.{needs}
 use Rattle.layer.proofs.weights.burdens.Statement.{statement}

@@ -1,9 +1,9 @@
 use Prim.Native.Nat.{_≤_}
 use borrow.Author.Needs.{needs}
 use borrow.Author.Tests.{not-true, not-false}
-use mathlib.Core.Bool.{true, false}
+use mathlib.Core.Bool.{true}
 use mathlib.Core.Path.{_≡_, sym, ap, _∙_}
-use Rattle.numbers.specs.Searches.{passed}
+use Rattle.numbers.proofs.Searches.{passed}
 use Rattle.rules.proofs.Limits.{within-parts, clock-tells}
 use Rattle.rules.specs.Quantities.{within, withinℤ, stressLimits, clockLimits}
 use Rattle.rules.specs.declared.quantities.Clock.{Clock}

@@ -2,9 +2,9 @@ use borrow.Author.Needs.{needs}
 use borrow.Author.Tests.{not-true, not-false}
 use mathlib.Core.Bool.{Bool, true, _&&_}
 use mathlib.Core.Path.{_≡_, refl, sym, ap, _∙_}
-use Rattle.laws.specs.SiteFacts.{site-by}
-use Rattle.laws.specs.Sizes.{SoundSizes, sound-sizes}
-use Rattle.laws.specs.SoundHeader.{SoundHeader, sound-header}
+use Rattle.laws.proofs.SiteFacts.{site-by}
+use Rattle.laws.proofs.Sizes.{SoundSizes, sound-sizes}
+use Rattle.laws.proofs.SoundHeader.{SoundHeader, sound-header}
 use Rattle.rules.specs.Curve.{compressibilitySound, conductivitySound}
 use Rattle.rules.specs.Layer.{topPressure, bottomPressure}
 use Rattle.rules.specs.Load.{tableSound}

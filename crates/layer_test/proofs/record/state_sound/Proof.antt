@@ -3,15 +3,16 @@ use native.Mathlib.Omega.{arith}
 use borrow.Author.Needs.{needs}
 use borrow.Author.Tests.{not-true, not-false}
 use lib.IntN.{pos, _+ℤ_}
-use mathlib.Core.Bool.{Bool, true, false, _&&_}
+use mathlib.Core.Bool.{Bool, true, _&&_}
 use mathlib.Core.List.{map}
 use mathlib.Core.Path.{_≡_, refl, sym, ap, _∙_}
-use Rattle.laws.specs.SiteFacts.{SiteFacts, site-facts}
-use Rattle.laws.specs.StateFacts.{state-by, outflow-bound}
+use Rattle.laws.proofs.SiteFacts.{SiteFacts, site-facts}
+use Rattle.laws.proofs.StateFacts.{state-by, outflow-bound}
 use Rattle.numbers.specs.Arrays.{firstPlaces}
 use Rattle.numbers.specs.Integers.{eqℤ}
-use Rattle.numbers.specs.Interval.{Within, within-le}
-use Rattle.numbers.specs.Searches.{passed, seven, is-true}
+use Rattle.numbers.specs.Interval.{Within}
+use Rattle.numbers.proofs.Interval.{within-le}
+use Rattle.numbers.proofs.Searches.{passed, seven, is-true}
 use Rattle.numbers.specs.Sums.{sum}
 use Rattle.rules.proofs.Limits.{within-parts}
 use Rattle.rules.specs.Quantities.{within, withinℤ, stressLimits, clockLimits, startingWaterLimits, outflowRate}

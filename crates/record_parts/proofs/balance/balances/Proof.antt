@@ -4,11 +4,12 @@ use lib.IntN.{ℤ, pos, _+ℤ_, _-ℤ_}
 use mathlib.Core.Path.{_≡_, sym, ap, subst, _∙_}
 use mir.Syntax.{w64}
 use mir.Val.{SFits}
-use Rattle.numbers.specs.Equality.{bits-equal, eqℤ→eq, eq→eqℤ}
+use Rattle.numbers.proofs.Equality.{bits-equal, eqℤ→eq, eq→eqℤ}
 use Rattle.numbers.specs.Integers.{eqℤ}
-use Rattle.numbers.specs.Interval.{Within, within-sub, within-le, within-pos, within-fits}
-use Rattle.numbers.specs.Searches.{same-test}
-use Rattle.numbers.specs.Signed.{signed, readBack, add-parts, sub-parts}
+use Rattle.numbers.specs.Interval.{Within}
+use Rattle.numbers.proofs.Interval.{within-sub, within-le, within-pos, within-fits}
+use Rattle.numbers.proofs.Searches.{same-test}
+use Rattle.numbers.proofs.Signed.{signed, readBack, add-parts, sub-parts}
 use Rattle.rules.specs.Quantities.{startingWaterLimits}
 use borrow.Author.Needs.{needs}
 use Rattle.record_parts.proofs.balance.balances.Statement.{statement}

@@ -4,8 +4,8 @@ use lib.IntN.{pos, _-ℤ_}
 use mathlib.Core.Path.{_≡_}
 use mir.Syntax.{w64}
 use mir.Val.{SFits, toZ}
-use Rattle.numbers.specs.Interval.{within-sub, within-pos, within-le, within-fits}
-use Rattle.numbers.specs.Signed.{readBack, readUnsigned}
+use Rattle.numbers.proofs.Interval.{within-sub, within-pos, within-le, within-fits}
+use Rattle.numbers.proofs.Signed.{readBack, readUnsigned}
 use Rattle.rules.specs.Quantities.{startingWaterLimits}
 use Prim.Native.Nat.{_*_}
 use Rattle.record_parts.proofs.balance.settlement.Statement.{statement}

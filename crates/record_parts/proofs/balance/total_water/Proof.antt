@@ -4,8 +4,9 @@ use lib.ListN.{take}
 use lib.Seq.{take-all}
 use mathlib.Core.Path.{_≡_, refl, ap, _∙_}
 use Rattle.numbers.specs.Arrays.{firstPlaces}
-use Rattle.numbers.specs.Filled.{first-length, first-at}
-use Rattle.numbers.specs.Sums.{sum, sum-suc}
+use Rattle.numbers.proofs.Filled.{first-length, first-at}
+use Rattle.numbers.specs.Sums.{sum}
+use Rattle.numbers.proofs.Sums.{sum-suc}
 use Rattle.rules.specs.Quantities.{waterLimits}
 use Rattle.record_parts.proofs.balance.total_water.Statement.{statement}
 use Rattle.record_parts.proofs.balance.total_water.Tie as tie

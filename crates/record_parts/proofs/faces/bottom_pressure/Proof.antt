@@ -1,8 +1,9 @@
 use lib.IntN.{ℤ, _-ℤ_}
 use mir.Syntax.{w64}
 use mir.Val.{SFits}
-use Rattle.numbers.specs.Interval.{Within, intervals, within-fits}
-use Rattle.numbers.specs.Signed.{readBack, one-sided, sub-parts}
+use Rattle.numbers.specs.Interval.{Within}
+use Rattle.numbers.proofs.Interval.{intervals, within-fits}
+use Rattle.numbers.proofs.Signed.{readBack, one-sided, sub-parts}
 use Rattle.rules.specs.Layer.{bottomPressure}
 use Rattle.rules.specs.Quantities.{levelLimits}
 use Rattle.record_parts.proofs.faces.bottom_pressure.Statement.{statement}

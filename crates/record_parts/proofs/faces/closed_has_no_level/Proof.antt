@@ -1,6 +1,6 @@
 use lib.IntN.{pos}
-use Rattle.numbers.specs.Equality.{bits-equal}
-use Rattle.numbers.specs.Interval.{within-fits, within-pos}
+use Rattle.numbers.proofs.Equality.{bits-equal}
+use Rattle.numbers.proofs.Interval.{within-fits, within-pos}
 use Rattle.rules.specs.Record.{closedAtZero}
 use borrow.Author.Needs.{needs}
 use Rattle.record_parts.proofs.faces.closed_has_no_level.Statement.{statement}

@@ -1,4 +1,4 @@
-use Rattle.numbers.specs.Equality.{bits-equal}
+use Rattle.numbers.proofs.Equality.{bits-equal}
 use Rattle.rules.specs.Record.{faceHolds}
 use borrow.Author.Needs.{needs}
 use Rattle.record_parts.proofs.faces.face_holds.Statement.{statement}

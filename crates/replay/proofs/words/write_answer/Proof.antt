@@ -1,7 +1,7 @@
 use native.Mathlib.Omega.{arith}
 use lib.ListN.{length-set}
 use borrow.Author.Needs.{needs}
-use Rattle.replay.specs.WordLaws.{three-stores}
+use Rattle.replay.proofs.WordLaws.{three-stores}
 use Rattle.replay.proofs.words.write_answer.Statement.{statement}
 use Rattle.replay.proofs.words.write_answer.Tie as tie
 

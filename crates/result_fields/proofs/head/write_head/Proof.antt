@@ -6,12 +6,11 @@ use mathlib.Core.List.{List, _++_}
 use mathlib.Core.Path.{_≡_, refl, ap}
 use mir.Syntax.{w64}
 use mir.Val.{SFits}
-use Rattle.encoding.specs.Stores.{sets-then}
+use Rattle.encoding.proofs.Stores.{sets-then}
 use Rattle.numbers.specs.Bytes.{bytes}
 use Rattle.numbers.specs.Integers.{up}
-use Rattle.numbers.specs.Signed.{cast-fits, cast-value, readBack}
-use Rattle.result_fields.specs.HeadLaws.{beforeClock}
-use Rattle.rules.specs.Result.{headBytes, word, signedWord}
+use Rattle.numbers.proofs.Signed.{cast-fits, cast-value, readBack}
+use Rattle.rules.specs.Result.{beforeClock, headBytes, word, signedWord}
 use Rattle.rules.specs.declared.answers.Ended.{Ended}
 use Rattle.rules.specs.declared.record.Progress.{Progress}
 use borrow.Author.Needs.{needs}

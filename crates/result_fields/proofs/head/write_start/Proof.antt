@@ -2,7 +2,7 @@ use native.Mathlib.Omega.{arith}
 use borrow.Author.Needs.{needs}
 use lib.ListN.{length-set}
 use Rattle.numbers.specs.Bytes.{bytes}
-use Rattle.result_fields.specs.HeadLaws.{first-stores, stop-fits}
+use Rattle.result_fields.proofs.HeadLaws.{first-stores, stop-fits}
 use Rattle.result_fields.proofs.head.write_start.Statement.{statement}
 use Rattle.result_fields.proofs.head.write_start.Tie as tie
 

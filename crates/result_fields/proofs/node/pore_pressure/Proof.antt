@@ -2,10 +2,11 @@ use lib.IntN.{ℤ, pos, _+ℤ_, _-ℤ_}
 use mathlib.Core.Path.{_≡_, ap}
 use mir.Syntax.{w64}
 use mir.Val.{SFits}
-use Rattle.numbers.specs.Interval.{Within, within-fits}
-use Rattle.numbers.specs.Signed.{readBack, readUnsigned}
-use Rattle.result_fields.specs.Ranges.{level-within, head-within, pressure-within, pore-within}
-use Rattle.rules.specs.Quantities.{head, pressure, levelLimits, pressureOf}
+use Rattle.numbers.specs.Interval.{Within}
+use Rattle.numbers.proofs.Interval.{within-fits}
+use Rattle.numbers.proofs.Signed.{readBack, readUnsigned}
+use Rattle.result_fields.proofs.Ranges.{level-within, head-within, pressure-within, pore-within}
+use Rattle.rules.specs.Quantities.{head, levelLimits, pressureOf}
 use Rattle.rules.specs.Result.{poreOver}
 use Rattle.rules.specs.declared.quantities.Pressure.{Pressure}
 use native.Mathlib.Omega.{arith}

@@ -4,10 +4,12 @@ use mathlib.Core.List.{List}
 use mathlib.Core.Path.{_≡_, ap, _∙_}
 use Rattle.laws.specs.Most.{mostExcess}
 use Rattle.layer.specs.Soil.{OnSoil}
-use Rattle.numbers.specs.Interval.{Within, intervals}
-use Rattle.numbers.specs.Signed.{one-sided}
-use Rattle.result_fields.specs.Elements.{mostPore, element-stored}
-use Rattle.result_fields.specs.Ranges.{water-most, stress-most, excess-within, node-low, pore-within}
+use Rattle.numbers.specs.Interval.{Within}
+use Rattle.numbers.proofs.Interval.{intervals}
+use Rattle.numbers.proofs.Signed.{one-sided}
+use Rattle.result_fields.specs.Elements.{mostPore}
+use Rattle.result_fields.proofs.Elements.{element-stored}
+use Rattle.result_fields.proofs.Ranges.{water-most, stress-most, excess-within, node-low, pore-within}
 use Rattle.rules.specs.Curve.{Point, points, valueOf}
 use Rattle.rules.specs.Layer.{skeletonOf, effectiveStress, excessUnder, excessPressure}
 use Rattle.rules.specs.Quantities.{levelLimits, stressLimits, waterLimits}

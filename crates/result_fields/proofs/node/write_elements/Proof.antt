@@ -5,8 +5,9 @@ use mathlib.Core.Path.{_≡_, refl, ap, _∙_}
 use Rattle.layer.specs.Soil.{OnSoil}
 use Rattle.numbers.specs.Arrays.{tabulate, firstPlaces}
 use Rattle.numbers.specs.Sums.{sum}
-use Rattle.result_fields.specs.Elements.{mostHeight, heightOf, height-more, elements-stored, elements-done}
-use Rattle.result_fields.specs.Ranges.{water-most}
+use Rattle.result_fields.specs.Elements.{mostHeight}
+use Rattle.result_fields.proofs.Elements.{heightOf, height-more, elements-stored, elements-done}
+use Rattle.result_fields.proofs.Ranges.{water-most}
 use Rattle.rules.specs.Curve.{points}
 use Rattle.rules.specs.Quantities.{solidsLimits, waterLimits}
 use Rattle.rules.specs.Result.{elementsBytes}

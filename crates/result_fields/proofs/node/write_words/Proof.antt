@@ -2,9 +2,9 @@ use lib.IntN.{pos, _+ℤ_}
 use mir.Syntax.{w64}
 use mir.Val.{SFits}
 use native.Mathlib.Omega.{arith}
-use Rattle.numbers.specs.Interval.{within-add, within-fits, within-le, within-pos}
-use Rattle.numbers.specs.Signed.{readBack, readUnsigned}
-use Rattle.result_fields.specs.Elements.{words-stored}
+use Rattle.numbers.proofs.Interval.{within-add, within-fits, within-le, within-pos}
+use Rattle.numbers.proofs.Signed.{readBack, readUnsigned}
+use Rattle.result_fields.proofs.Elements.{words-stored}
 use borrow.Author.Needs.{needs}
 use Rattle.result_fields.proofs.node.write_words.Statement.{statement}
 use Rattle.result_fields.proofs.node.write_words.Tie as tie

@@ -2,7 +2,7 @@ use borrow.Author.Needs.{needs}
 use mathlib.Core.Path.{sym, _∙_}
 use lib.IntN.{pos}
 use lib.Signed.{_≤ℤ_}
-use Rattle.numbers.specs.Signed.{readBack, ltZ-true, ltZ-false, cast-fits}
+use Rattle.numbers.proofs.Signed.{readBack, ltZ-true, ltZ-false, cast-fits}
 use Rattle.rules.proofs.Limits.{negative, not-negative}
 use Rattle.rules.proofs.quantities.within_signed.Statement.{statement}
 use Rattle.rules.proofs.quantities.within_signed.Tie as tie

@@ -2,7 +2,7 @@ use borrow.Author.Needs.{needs}
 use borrow.Author.Tests.{eq-eqb, ne-eqb}
 use lib.IntN.{ℤ}
 use mathlib.Core.Path.{ap}
-use Rattle.numbers.specs.Signed.{readBack}
+use Rattle.numbers.proofs.Signed.{readBack}
 use Rattle.rules.specs.Quantities.{pressure}
 use Rattle.rules.specs.declared.quantities.Face.the-variants.{Drained}
 use Rattle.transcript.specs.Input.{faceIn}

@@ -1,6 +1,6 @@
 use borrow.Author.Needs.{needs}
 use Rattle.transcript.specs.Input.{frameIn}
-use Rattle.encoding.specs.Signed.{back}
+use Rattle.encoding.proofs.Signed.{back}
 use Rattle.transcript.proofs.input.frame.Statement.{statement}
 use Rattle.transcript.proofs.input.frame.Tie as tie
 

@@ -1,5 +1,5 @@
 use borrow.Author.Needs.{needs}
-use Rattle.encoding.specs.Signed.{back}
+use Rattle.encoding.proofs.Signed.{back}
 use Rattle.transcript.specs.Input.{progressIn}
 use Rattle.transcript.proofs.input.progress.Statement.{statement}
 use Rattle.transcript.proofs.input.progress.Tie as tie

@@ -1,5 +1,5 @@
 use borrow.Author.Needs.{needs}
-use Rattle.encoding.specs.Signed.{back}
+use Rattle.encoding.proofs.Signed.{back}
 use Rattle.transcript.proofs.input.signed_field.Statement.{statement}
 use Rattle.transcript.proofs.input.signed_field.Tie as tie
 

@@ -1,9 +1,9 @@
 use Prim.Native.Nat.{ℕ, _<_, _≤_}
 use native.Mathlib.Omega.{arith}
 use borrow.Author.Tests.{lt-ltb, le-ltb, eq-eqb, ne-eqb}
-use mathlib.Core.List.{List, _++_}
+use mathlib.Core.List.{_++_}
 use mathlib.Core.Path.{_≡_}
-use Rattle.text.specs.Laws.{put-put}
+use Rattle.text.proofs.Laws.{put-put}
 use Rattle.text.specs.Text.{spaced}
 use Rattle.transcript.specs.Lines.{answerText}
 use borrow.Author.Needs.{needs}

@@ -1,5 +1,5 @@
 use native.Mathlib.Omega.{arith}
-use Rattle.text.specs.Laws.{put-put}
+use Rattle.text.proofs.Laws.{put-put}
 use Rattle.transcript.specs.Lines.{countsText}
 use borrow.Author.Needs.{needs}
 use Rattle.transcript.proofs.lines.put_counts.Statement.{statement}

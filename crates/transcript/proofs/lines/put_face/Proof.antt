@@ -1,6 +1,6 @@
 use native.Mathlib.Omega.{arith}
-use Rattle.numbers.specs.Signed.{readBack}
-use Rattle.text.specs.Laws.{put-put}
+use Rattle.numbers.proofs.Signed.{readBack}
+use Rattle.text.proofs.Laws.{put-put}
 use Rattle.transcript.specs.Lines.{faceText}
 use borrow.Author.Needs.{needs}
 use Rattle.transcript.proofs.lines.put_face.Statement.{statement}

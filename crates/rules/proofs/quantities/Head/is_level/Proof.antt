@@ -1,7 +1,7 @@
 use borrow.Author.Needs.{needs}
 use mir.Syntax.{w64}
 use mir.Val.{SFits}
-use Rattle.numbers.specs.Signed.{readBack}
+use Rattle.numbers.proofs.Signed.{readBack}
 use Rattle.rules.proofs.quantities.Head.is_level.Statement.{statement}
 use Rattle.rules.proofs.quantities.Head.is_level.Tie as tie
 

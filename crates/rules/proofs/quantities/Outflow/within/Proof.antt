@@ -7,9 +7,9 @@ use mathlib.Core.Bool.{Bool, _&&_}
 use mathlib.Core.Path.{_≡_, sym, ap, _∙_}
 use mir.Syntax.{w64}
 use mir.Val.{SFits, toZ}
-use Rattle.numbers.specs.Interval.{intervals, within-sub, within-le, within-pos, within-fits}
-use Rattle.numbers.specs.Searches.{both, joined, same-test}
-use Rattle.numbers.specs.Signed.{readBack, readUnsigned, one-sided, sub-parts, natAbs-parts}
+use Rattle.numbers.proofs.Interval.{intervals, within-sub, within-le, within-pos, within-fits}
+use Rattle.numbers.proofs.Searches.{both, joined, same-test}
+use Rattle.numbers.proofs.Signed.{readBack, readUnsigned, one-sided, sub-parts, natAbs-parts}
 use Rattle.rules.specs.Quantities.{outflowRate, mostOutflow}
 use Rattle.rules.specs.Record.{outflowWithin}
 use borrow.Author.Needs.{needs}

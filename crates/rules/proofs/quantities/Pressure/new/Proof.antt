@@ -2,7 +2,7 @@ use native.Mathlib.Omega.{arith}
 use borrow.Author.Needs.{needs}
 use mathlib.Core.Bool.{true}
 use mathlib.Core.Path.{_≡_, sym, _∙_}
-use Rattle.numbers.specs.Signed.{signed, readUnsigned}
+use Rattle.numbers.proofs.Signed.{signed, readUnsigned}
 use Rattle.rules.specs.Quantities.{within, stressLimits}
 use Rattle.rules.proofs.Limits.{kept-small, tested-kept, tested-outside}
 use Rattle.rules.proofs.quantities.Pressure.new.Statement.{statement}

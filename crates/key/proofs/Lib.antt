@@ -1,0 +1,3 @@
+-- What the key does with a job that opening accepts.
+pub mod KeyLaws
+pub mod Layers
