@@ -23,7 +23,7 @@ use Rattle.numbers.specs.Lists.{paired}
 use Rattle.numbers.proofs.Signed.{signed, add-parts, sub-parts}
 use Rattle.numbers.specs.Sums.{sum}
 use Rattle.rules.specs.Calls.{replayed}
-use Rattle.rules.specs.Layer.{Site, State, height, elements}
+use Rattle.rules.specs.Layer.{Site, State, height, readElements}
 use Rattle.rules.specs.Record.{recordSite, recordState}
 use Rattle.rules.specs.Result.{settlement}
 use Rattle.rules.specs.Start.{openingState}
@@ -157,7 +157,7 @@ module _ (site : Site) (water : List ℕ) (opened : Record) (h : Stands site (su
   unfolding begun
   bounded-first =
       every-map (λ e. Between (lowest ps) (highest ps) (e .excess)) (λ e. within-bounds first (e .excess))
-      (λ e. first-within (lowest ps) (highest ps) 0 0 (e .excess)) (elements site (first .state)) (bounding site (first .state) .first)
+      (λ e. first-within (lowest ps) (highest ps) 0 0 (e .excess)) (readElements site (first .state)) (bounding site (first .state) .first)
 
   pub bounded : Every (within-bounds (c .tally)) (excesses (recordSite r) (recordState r))
   unfolding excesses
@@ -166,7 +166,7 @@ module _ (site : Site) (water : List ℕ) (opened : Record) (h : Stands site (su
       let along =
       events-bounded site sound (sum water) (lowest ps) (highest ps) (b .top) (b .bottom) (c .events) first own accepted kept bounded-first in
       let all = subst (λ (y : Tally). AllExcess site (within-bounds y) (y .state)) (sym (course-tallied site calls first)) along in
-      rw (same-site, same-state) (every-image (within-bounds (c .tally)) (λ e. e .excess) (elements site last) .1 all)
+      rw (same-site, same-state) (every-image (within-bounds (c .tally)) (λ e. e .excess) (readElements site last) .1 all)
 
   -- ---- outflows
 
@@ -176,4 +176,4 @@ module _ (site : Site) (water : List ℕ) (opened : Record) (h : Stands site (su
   not-lowered none p b =
       let never : (tallied site (c .events) first) .falls ≡ 0 = sym (ap (λ (y : Tally). y .falls) (course-tallied site calls first)) ∙ none in
       events-not-lowered site sound (sum water) (level-zero site sound b) (c .events) first own accepted kept
-      (every-image NotNegative (λ e. e .excess) (elements site (first .state)) .0 p) (omega arith)
+      (every-image NotNegative (λ e. e .excess) (readElements site (first .state)) .0 p) (omega arith)

@@ -12,14 +12,14 @@ use Rattle.laws.specs.Faces.{Holds}
 use Rattle.laws.proofs.Spread.{stays-between}
 use Rattle.numbers.proofs.Signed.{signed, one-sided, add-parts, sub-parts}
 use Rattle.rules.specs.Curve.{valueOf}
-use Rattle.rules.specs.Layer.{Site, State, skeleton, effectiveStress, excessPressure, element, elementsFrom, elements, burdens}
+use Rattle.rules.specs.Layer.{Site, State, skeleton, effectiveStress, excessPressure, element, elementsFrom, readElements, burdens}
 use Rattle.rules.specs.Load.{withLoad}
 use Rattle.rules.specs.Run.{Event, loadSet, stepTaken}
 use Rattle.rules.specs.Tally.{Tally, rise, recorded, tallied}
 
 -- all excess pressures of a state are in a set
 abbrev pub AllExcess : Site → (ℤ → Type 0) → State → Type 0
-AllExcess site P s = Every (λ e. P (e .excess)) (elements site s)
+AllExcess site P s = Every (λ e. P (e .excess)) (readElements site s)
 
 -- ---- a load set
 
@@ -51,7 +51,7 @@ module _ (site : Site) (P Q : ℤ → Type 0) (old new : ℤ) (move : (p : ℤ) 
 -- a load set moves all excess pressures by its change
 pub loaded : (site : Site) (P Q : ℤ → Type 0) (new : ℤ) (s : State) → ((p : ℤ) → P p → Q (p +ℤ (new -ℤ s.load))) →
     AllExcess site P s → AllExcess site Q (withLoad new s)
-unfolding elements withLoad
+unfolding readElements withLoad
 loaded site P Q new s move h =
     loaded-from site P Q s.load new move (burdens site.gravity site.solids) site.solids s.water h
 

@@ -11,7 +11,7 @@ use Rattle.laws.specs.Every.{Every}
 use Rattle.laws.proofs.Every.{every-map, every-append}
 use Rattle.laws.specs.Faces.{Holds}
 use Rattle.numbers.proofs.Signed.{signed}
-use Rattle.rules.specs.Layer.{Site, State, elements}
+use Rattle.rules.specs.Layer.{Site, State, readElements}
 use Rattle.rules.specs.Tally.{excesses}
 use Rattle.rules.specs.declared.quantities.Face.{Face}
 use Rattle.rules.specs.declared.quantities.Face.the-variants.{Closed, Drained}
@@ -59,7 +59,7 @@ held-holds P (Drained pressure) h = h .0
 
 -- the parts of what holds of all pressures that bound
 pub record Bounding (site : Site) (P : ℤ → Type 0) (s : State) : Type 0 where
-  pub first : Every (λ e. P (e .excess)) (elements site s)
+  pub first : Every (λ e. P (e .excess)) (readElements site s)
   pub top : Holds P site.top
   pub bottom : Holds P site.bottom
 
@@ -70,7 +70,7 @@ bounding site s =
     let (front, below) = every-append P (excesses site s ++ held site.top) (held site.bottom) .0 (all-between (pressures site s)) in
     let (first, above) = every-append P (excesses site s) (held site.top) .0 front in
     record {
-      first = every-image P (λ e. e .excess) (elements site s) .0 first;
+      first = every-image P (λ e. e .excess) (readElements site s) .0 first;
       top = held-holds P site.top above;
       bottom = held-holds P site.bottom below;
     }

@@ -20,7 +20,7 @@ use Rattle.numbers.proofs.Interval.{within-pos, within-le, within-add, within-s
 use Rattle.numbers.proofs.Searches.{both, joined}
 use Rattle.numbers.specs.Sums.{sum}
 use Rattle.rules.specs.Curve.{falling, compressibilitySound}
-use Rattle.rules.specs.Layer.{Site, State, Skeleton, skeleton, elements, bottomPressure}
+use Rattle.rules.specs.Layer.{Site, State, Skeleton, skeleton, readElements, bottomPressure}
 use Rattle.rules.specs.Load.{tableSound, withLoad}
 use Rattle.rules.specs.Quantities.{clockLimits, solidsLimits, gravityLimits, elementLimits, outflowRate, mostHeadPressure}
 use Rattle.rules.specs.Run.{Event, loadSet, stepTaken, afterEvent, afterEvents}
@@ -103,7 +103,7 @@ module _ (site : Site) (sound : SoundSite site) (start : ℕ) where
       record {
         size = stepped-length site t s (k .size) ∙ k .size;
         on-curve =
-            heights-on (skeleton site) site.solids s.water (moved (upwardFlows site.top site.bottom t (elements site s)) s.water)
+            heights-on (skeleton site) site.solids s.water (moved (upwardFlows site.top site.bottom t (readElements site s)) s.water)
             (stays-on site s t (a .stays));
         load = k .load;
         clock = a .clock-most;

@@ -18,7 +18,7 @@ use Rattle.laws.specs.Faces.{Holds}
 use Rattle.laws.proofs.Spread.{spread}
 use Rattle.numbers.specs.Lists.{firstOr, lastOr}
 use Rattle.numbers.proofs.Signed.{signed, add-parts, sub-parts, up-neg, down-neg}
-use Rattle.rules.specs.Layer.{Site, State, Element, elements, bottomPressure}
+use Rattle.rules.specs.Layer.{Site, State, Element, readElements, bottomPressure}
 use Rattle.rules.specs.Quantities.{pressureOf}
 use Rattle.claims.specs.Pressures.{NotNegative, NotLowered}
 use Rattle.rules.specs.Run.{Event, loadSet, stepTaken, afterEvent}
@@ -66,8 +66,8 @@ module _ (site : Site) (sound : SoundSite site) (start : ℕ) (below : HoldsZero
   step-not-lowered : (t : ℕ) (s : State) → AllExcess site NotNegative s → NotLowered (record { before = s; later = stepped site t s })
   unfolding stepped
   step-not-lowered t s p =
-      let flows = upwardFlows site.top site.bottom t (elements site s) in
-      let (enters, leaves) = outer-forward site.top t (sound .top-holds) site.bottom (elements site s) below p in (
+      let flows = upwardFlows site.top site.bottom t (readElements site s) in
+      let (enters, leaves) = outer-forward site.top t (sound .top-holds) site.bottom (readElements site s) below p in (
         omega (signed, leaves, add-parts s.topOutflow (lastOr (pos 0) flows)),
         omega (signed, enters, sub-parts s.bottomOutflow (firstOr (pos 0) flows)),
       )

@@ -1,3 +1,4 @@
--- What the key does with a job that opening accepts.
+-- What the key does with a job that opening accepts, and the specimen's key.
 pub mod KeyLaws
 pub mod Layers
+pub mod Specimen

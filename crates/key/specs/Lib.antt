@@ -1,3 +1,2 @@
--- What the key leaves in an array that it is lent, and the specimen's key.
+-- What the key leaves in an array that it is lent.
 pub mod Water
-pub mod Specimen

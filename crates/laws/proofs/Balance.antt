@@ -12,7 +12,7 @@ use Rattle.numbers.proofs.Searches.{both}
 use Rattle.numbers.proofs.Signed.{signed, add-parts, sub-parts}
 use Rattle.numbers.specs.Sums.{sum}
 use Rattle.numbers.proofs.Sums.{total}
-use Rattle.rules.specs.Layer.{Site, State, Skeleton, skeleton, Element, elements}
+use Rattle.rules.specs.Layer.{Site, State, Skeleton, skeleton, Element, readElements}
 use Rattle.rules.specs.Step.{outward, upwardFlows, flowsAbove, moved, newHeight, stepped, onCurve, allOnCurve, leavesCurve}
 use Rattle.rules.specs.declared.quantities.Face.{Face}
 use Rattle.laws.proofs.OnCurve.{on-curve-parts, stays-on}
@@ -85,16 +85,16 @@ flows-total top bottom t (e ∷ rest) water h =
 
 module _ (site : Site) (t : ℕ) (s : State) (size : length s.water ≡ length site.solids) (stays : T (not (leavesCurve site s t))) where
   abbrev flows : List ℤ
-  flows = upwardFlows site.top site.bottom t (elements site s)
+  flows = upwardFlows site.top site.bottom t (readElements site s)
 
   -- a step that stays on the curve changes the water by what enters below and leaves above
   pub water-change : pos (sum ((stepped site t s) .water)) ≡ pos (sum s.water) +ℤ firstOr (pos 0) flows -ℤ lastOr (pos 0) flows
   unfolding stepped
   water-change =
       let n = elements-length site s size in
-      let m = flows-moved-length site.top site.bottom t (elements site s) s.water n in
+      let m = flows-moved-length site.top site.bottom t (readElements site s) s.water n in
       on-curve-total (skeleton site) site.solids s.water (moved flows s.water) (omega arith) m (stays-on site s t stays) ∙
-      flows-total site.top site.bottom t (elements site s) s.water n
+      flows-total site.top site.bottom t (readElements site s) s.water n
 
   -- the water left and both outflows add up to the same before and after
   pub balance : pos (sum ((stepped site t s) .water)) +ℤ (stepped site t s) .topOutflow +ℤ (stepped site t s) .bottomOutflow ≡

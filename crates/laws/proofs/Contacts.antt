@@ -11,7 +11,7 @@ use mathlib.Core.Logic.{_↔_}
 use Rattle.numbers.specs.Lists.{any}
 use Rattle.numbers.specs.Rounding.{floor}
 use Rattle.numbers.proofs.Division.{le-floor}
-use Rattle.rules.specs.Layer.{Site, State, Element, sensitivity, burdens, element, elementsFrom, elements}
+use Rattle.rules.specs.Layer.{Site, State, Element, sensitivity, burdens, element, elementsFrom, readElements}
 use Rattle.rules.specs.Step.{Contact, outerContacts, contactsAbove, contacts, siteSteepness, tooLongAt, tooLong}
 use Rattle.rules.specs.declared.quantities.Face.{Face}
 use Rattle.rules.specs.declared.quantities.Face.the-variants.{Closed, Drained}
@@ -99,7 +99,7 @@ module _ (P : ℕ → Type 0) where
 module _ (site : Site) (s : State) where
   -- the contacts of the layer
   abbrev layer : List Contact
-  layer = contacts site.top site.bottom (elements site s)
+  layer = contacts site.top site.bottom (readElements site s)
 
   -- a step is not too long just where it is short enough for every contact of the layer
   pub step-short-enough : (t : ℕ) → T (not (tooLong site s t)) ↔ Every (ShortFor (siteSteepness site) t) layer
@@ -118,8 +118,8 @@ module _ (site : Site) (s : State) where
 
   -- every contact of the layer limits the step, where neither the slope nor a solids height is 0
   pub layer-limiting : 0 < siteSteepness site → Every (λ S. 0 < S) site.solids → Every (Limiting (siteSteepness site)) layer
-  unfolding elements
+  unfolding readElements
   layer-limiting k solid =
-      every-contact (λ c. 0 < 2 * c * siteSteepness site) site.top site.bottom (elements site s)
+      every-contact (λ c. 0 < 2 * c * siteSteepness site) site.top site.bottom (readElements site s)
       (every-sensitivity (λ c. 0 < 2 * c * siteSteepness site) (λ S h. mul-pos (mul-pos (omega arith) (sensitivity-pos S h)) k)
       site s.load (burdens site.gravity site.solids) site.solids s.water solid)

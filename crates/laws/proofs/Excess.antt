@@ -14,7 +14,7 @@ use Rattle.numbers.proofs.Signed.{one-sided, add-parts, sub-parts}
 use Rattle.numbers.specs.Sums.{sum}
 use Rattle.rules.specs.Curve.{Point, curveAt, isOn, valueOf, compressibilitySound, conductivitySound}
 use Rattle.rules.specs.Layer.{Site, State, skeleton, skeletonOf, height, voidRatio, effectiveStress, hydraulicConductivity, buoyantWeight, burden, burdens}
-use Rattle.rules.specs.Layer.{excessPressure, resistance, Element, element, elementsFrom, elements}
+use Rattle.rules.specs.Layer.{excessPressure, resistance, Element, element, elementsFrom, readElements}
 use Rattle.rules.specs.Quantities.{stressLimits, solidsLimits, gravityLimits, elementLimits}
 use Rattle.rules.specs.Step.{onCurve, allOnCurve}
 use Rattle.laws.specs.Every.{Every}
@@ -104,8 +104,8 @@ module _ (site : Site) (sound : T (compressibilitySound site.compressibility)) w
   -- every excess pressure of at most 128 elements is in range
   pub excesses-within : (s : State) → Between (pos 0) (pos (stressLimits .most)) s.load → site.gravity ≤ gravityLimits .most →
       Every (λ S. S ≤ solidsLimits .most) site.solids → length site.solids ≤ elementLimits .most →
-      Every ExcessWithin (elements site s)
-  unfolding elements
+      Every ExcessWithin (readElements site s)
+  unfolding readElements
   excesses-within s h light small few =
       from-burdens s.load (burdens site.gravity site.solids) site.solids s.water h (burdens-most site.gravity light site.solids small few)
 
@@ -125,6 +125,6 @@ module _ (site : Site) (sound : T (compressibilitySound site.compressibility)) w
 
     -- every resistance of a layer on the curve is in range
     pub resistances-ranged : (s : State) → Every (λ S. 0 < S) site.solids → Every (λ S. S ≤ solidsLimits .most) site.solids →
-        T (allOnCurve (skeleton site) site.solids (map pos s.water)) → Every (λ e. Resists (e .resistance)) (elements site s)
-    unfolding elements
+        T (allOnCurve (skeleton site) site.solids (map pos s.water)) → Every (λ e. Resists (e .resistance)) (readElements site s)
+    unfolding readElements
     resistances-ranged s = from-water s.load (burdens site.gravity site.solids) site.solids s.water

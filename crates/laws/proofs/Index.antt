@@ -9,7 +9,7 @@ use mathlib.Core.Path.{_≡_, refl, ap}
 use Rattle.numbers.proofs.Filled.{length-tabulate, getD-tabulate}
 use Rattle.numbers.specs.Lists.{paired, lastOr}
 use Rattle.rules.specs.Curve.{Point, point, points}
-use Rattle.rules.specs.Layer.{Site, State, Element, burden, burdens, element, elementsFrom, elements}
+use Rattle.rules.specs.Layer.{Site, State, Element, burden, burdens, element, elementsFrom, readElements}
 use Rattle.rules.specs.Step.{upward, outward, flowsAbove, moved}
 use Rattle.rules.specs.declared.quantities.Face.{Face}
 use Rattle.rules.proofs.Points.{at}
@@ -66,9 +66,9 @@ from-at site load (S ∷ Ss) (W ∷ Ws) (suc i) d h k = from-at site load Ss Ws 
 
 -- element i has its solids and water, and the burden of all solids above it
 pub element-at : (site : Site) (s : State) (i : ℕ) (d : Element) → i < length site.solids → i < length s.water →
-    getD (elements site s) i d ≡
+    getD (readElements site s) i d ≡
     element site s.load (burden site.gravity (getD site.solids i 0) (drop (suc i) site.solids)) (getD site.solids i 0) (getD s.water i 0)
-unfolding elements
+unfolding readElements
 element-at site s i d h k = from-at site s.load site.solids s.water i d h k
 
 -- ---- flows

@@ -6,7 +6,7 @@ use lib.ListN.{length}
 use mathlib.Core.List.{List, [], _∷_}
 use mathlib.Core.Path.{_≡_, refl, ap, _∙_}
 use Rattle.numbers.specs.Lists.{paired}
-use Rattle.rules.specs.Layer.{Site, State, Element, burdens, elementsFrom, elements}
+use Rattle.rules.specs.Layer.{Site, State, Element, burdens, elementsFrom, readElements}
 use Rattle.rules.specs.Step.{outward, flowsAbove, upwardFlows, moved, newHeight, stepped}
 use Rattle.rules.specs.declared.quantities.Face.{Face}
 
@@ -28,8 +28,8 @@ from-length site load (B ∷ Bs) (S ∷ Ss) [] h k = refl
 from-length site load (B ∷ Bs) (S ∷ Ss) (W ∷ Ws) h k = ap suc (from-length site load Bs Ss Ws (omega arith) (omega arith))
 
 -- an element for each water height
-pub elements-length : (site : Site) (s : State) → length s.water ≡ length site.solids → length (elements site s) ≡ length s.water
-unfolding elements
+pub elements-length : (site : Site) (s : State) → length s.water ≡ length site.solids → length (readElements site s) ≡ length s.water
+unfolding readElements
 elements-length site s h =
     from-length site s.load (burdens site.gravity site.solids) site.solids s.water
     (omega (arith, burdens-length site.gravity site.solids)) (omega arith)
@@ -77,5 +77,5 @@ pub stepped-length : (site : Site) (t : ℕ) (s : State) → length s.water ≡ 
     length ((stepped site t s) .water) ≡ length s.water
 unfolding stepped
 stepped-length site t s h =
-    paired-length newHeight s.water (moved (upwardFlows site.top site.bottom t (elements site s)) s.water)
-    (flows-moved-length site.top site.bottom t (elements site s) s.water (elements-length site s h))
+    paired-length newHeight s.water (moved (upwardFlows site.top site.bottom t (readElements site s)) s.water)
+    (flows-moved-length site.top site.bottom t (readElements site s) s.water (elements-length site s h))

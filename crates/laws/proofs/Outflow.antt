@@ -10,7 +10,7 @@ use Rattle.numbers.specs.Rounding.{cut}
 use Rattle.numbers.specs.Interval.{Within}
 use Rattle.numbers.proofs.Interval.{within-le, within-pos, within-neg, within-sub}
 use Rattle.numbers.specs.Lists.{firstOr, lastOr}
-use Rattle.rules.specs.Layer.{Site, State, Element, elements}
+use Rattle.rules.specs.Layer.{Site, State, Element, readElements}
 use Rattle.rules.specs.Quantities.{outflowRate}
 use Rattle.rules.specs.Step.{upward, outward, flowsAbove, upwardFlows, siteSteepness, outerContacts, contactsAbove, contacts, tooLong}
 use Rattle.rules.specs.declared.quantities.Face.{Face}
@@ -66,9 +66,9 @@ module _ (K t : ℕ) (h : 1 ≤ t) where
 
 -- in a step that is not too long the flows through both outer faces are in range
 pub outflow-within : (site : Site) (s : State) (t : ℕ) → 1 ≤ t → 0 < siteSteepness site → Every (λ S. 0 < S) site.solids →
-    HeldWithin site.top → HeldWithin site.bottom → Every ExcessWithin (elements site s) → T (not (tooLong site s t)) →
-    OuterWithin t (firstOr (pos 0) (upwardFlows site.top site.bottom t (elements site s))) ×
-    OuterWithin t (lastOr (pos 0) (upwardFlows site.top site.bottom t (elements site s)))
+    HeldWithin site.top → HeldWithin site.bottom → Every ExcessWithin (readElements site s) → T (not (tooLong site s t)) →
+    OuterWithin t (firstOr (pos 0) (upwardFlows site.top site.bottom t (readElements site s))) ×
+    OuterWithin t (lastOr (pos 0) (upwardFlows site.top site.bottom t (readElements site s)))
 outflow-within site s t h slope solid top bottom p short =
-    outer-within (siteSteepness site) t h site.top site.bottom (elements site s) top bottom p
+    outer-within (siteSteepness site) t h site.top site.bottom (readElements site s) top bottom p
     (layer-limiting site s slope solid) (step-short-enough site s t .0 short)

@@ -11,7 +11,7 @@ use Rattle.numbers.specs.Rounding.{floor}
 use Rattle.numbers.proofs.Division.{le-floor}
 use Rattle.numbers.specs.Lists.{any, greatest}
 use Rattle.numbers.proofs.Searches.{by-test}
-use Rattle.rules.specs.Layer.{Site, State, Element, elements}
+use Rattle.rules.specs.Layer.{Site, State, Element, readElements}
 use Rattle.rules.specs.Step.{Contact, innerResistance, contactsAbove, contacts, siteSteepness, tooLongAt, tooLong}
 use Rattle.rules.specs.Run.{longestReach, longestStep}
 use Rattle.rules.specs.declared.quantities.Face.{Face}
@@ -123,8 +123,8 @@ inner-shortened K most top e f rest p p′ =
 -- the longest step of a run is the reach, shortened for each contact of the layer
 pub longest-shortened : (site : Site) (end : ℕ) (s : State) → 0 < siteSteepness site → Every (λ S. 0 < S) site.solids →
     longestStep site end s ≡
-    shortened (siteSteepness site) (longestReach site end s.clock) (contacts site.top site.bottom (elements site s))
+    shortened (siteSteepness site) (longestReach site end s.clock) (contacts site.top site.bottom (readElements site s))
 unfolding longestStep tooLong
 longest-shortened site end s k solid =
-    greatest-shortened (siteSteepness site) (longestReach site end s.clock) (contacts site.top site.bottom (elements site s))
+    greatest-shortened (siteSteepness site) (longestReach site end s.clock) (contacts site.top site.bottom (readElements site s))
     (layer-limiting site s k solid)

@@ -9,7 +9,7 @@ use mathlib.Core.List.{List, [], _∷_, map}
 use mathlib.Core.Path.{_∙_}
 use Rattle.numbers.proofs.Searches.{both}
 use Rattle.rules.specs.Curve.{falling}
-use Rattle.rules.specs.Layer.{Site, State, skeleton, Element, element, elementsFrom, elements, burden, burdens, effectiveStress, sensitivity}
+use Rattle.rules.specs.Layer.{Site, State, skeleton, Element, element, elementsFrom, readElements, burden, burdens, effectiveStress, sensitivity}
 use Rattle.numbers.specs.Lists.{paired}
 use Rattle.rules.specs.Step.{innerResistance, upward, outward, flowsAbove, upwardFlows, moved, newHeight, stepped, siteSteepness}
 use Rattle.rules.specs.Step.{Contact, outerContacts, contactsAbove, contacts, tooLong, onCurve, allOnCurve, leavesCurve}
@@ -130,16 +130,16 @@ module _ (site : Site) {P : ℤ → Type 0} (convex : Convex P)
 
   -- a step that is not too long and stays on the curve keeps every excess pressure in the set
   pub spread : (s : State) → Every (λ S. 0 < S) site.solids → Holds P site.top → Holds P site.bottom →
-      Every (λ e. P (e .excess)) (elements site s) → T (allOnCurve (skeleton site) site.solids (map pos s.water)) →
-      T (not (tooLong site s t)) → T (not (leavesCurve site s t)) → Every (λ e. P (e .excess)) (elements site (stepped site t s))
-  unfolding elements stepped allOnCurve leavesCurve
+      Every (λ e. P (e .excess)) (readElements site s) → T (allOnCurve (skeleton site) site.solids (map pos s.water)) →
+      T (not (tooLong site s t)) → T (not (leavesCurve site s t)) → Every (λ e. P (e .excess)) (readElements site (stepped site t s))
+  unfolding readElements stepped allOnCurve leavesCurve
   spread s solid top bottom kept old short stays =
       spread-whole s.load site.solids s.water solid top bottom kept (step-short-enough site s t .0 short) old (stays-on site s t stays)
 
 -- such a step keeps every excess pressure between bounds on all of them and on what the drained faces hold
 pub stays-between : (site : Site) (lo hi : ℤ) (t : ℕ) (s : State) → T (falling site.compressibility) → Every (λ S. 0 < S) site.solids →
-    Holds (Between lo hi) site.top → Holds (Between lo hi) site.bottom → Every (λ e. Between lo hi (e .excess)) (elements site s) →
+    Holds (Between lo hi) site.top → Holds (Between lo hi) site.bottom → Every (λ e. Between lo hi (e .excess)) (readElements site s) →
     T (allOnCurve (skeleton site) site.solids (map pos s.water)) → T (not (tooLong site s t)) → T (not (leavesCurve site s t)) →
-    Every (λ e. Between lo hi (e .excess)) (elements site (stepped site t s))
+    Every (λ e. Between lo hi (e .excess)) (readElements site (stepped site t s))
 unfolding siteSteepness
 stays-between site lo hi t s falls = spread site (between-convex lo hi) (stress-fall site.compressibility falls) t s

@@ -19,7 +19,7 @@ use Rattle.numbers.specs.Lists.{all, paired}
 use Rattle.rules.specs.Curve.{Point, falling}
 use Rattle.rules.proofs.Falling.{firstAbscissa}
 use Rattle.rules.specs.Layer as layer
-use Rattle.rules.specs.Layer.{Site, State, Skeleton, skeleton, skeletonOf, Element, burdens, elements, excessPressure}
+use Rattle.rules.specs.Layer.{Site, State, Skeleton, skeleton, skeletonOf, Element, burdens, readElements, excessPressure}
 use Rattle.rules.specs.Step.{Contact, contact, innerResistance, outerResistance, upward, outward, flowsAbove, upwardFlows, moved, outerContacts, contactsAbove, contacts, onCurve, allOnCurve}
 use Rattle.rules.specs.declared.quantities.Face.{Face}
 use Rattle.rules.specs.declared.quantities.Face.the-variants.{Closed, Drained}
@@ -171,10 +171,10 @@ module _ (site : Site) (s : State) (n : ℕ) (solids-many : length site.solids �
   pub elements-in : ((j : ℕ) → j < n → getD excess j (pos 0) ≡ excessPressure (skeleton site) s.load (B j) (S j) (W j)) →
       ((j : ℕ) → j < n → getD resistance j 0 ≡ layer.resistance site.conductivity (S j) (W j)) →
       ((j : ℕ) → j < n → getD sensitivity j 0 ≡ layer.sensitivity (S j)) →
-      elements site s ≡ elementsIn n excess resistance sensitivity
+      readElements site s ≡ elementsIn n excess resistance sensitivity
   unfolding elementsIn layer.element
   elements-in p r c =
-      tabulated n (elementIn excess resistance sensitivity) (elements site s) (elementOf (pos 0) 0 0)
+      tabulated n (elementIn excess resistance sensitivity) (readElements site s) (elementOf (pos 0) 0 0)
       (elements-length site s (water-many ∙ sym solids-many) ∙ water-many)
       (λ j h.
       element-at site s j (elementOf (pos 0) 0 0) (rw solids-many h) (rw water-many h) ∙

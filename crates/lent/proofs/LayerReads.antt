@@ -30,7 +30,7 @@ use Rattle.points.proofs.Covers.{ends}
 use Rattle.rules.proofs.Sound.{compressible, falls-down}
 use Rattle.rules.specs.Curve.{Point, curveSteepness}
 use Rattle.rules.specs.Layer as layer
-use Rattle.rules.specs.Layer.{elements}
+use Rattle.rules.specs.Layer.{readElements}
 use Rattle.rules.specs.Quantities.{stressLimits, waterLimits, voidUnit}
 use Rattle.rules.specs.Record.{compressibilityPoints, conductivityPoints, recordSite, recordState, isLayer}
 use Rattle.rules.specs.Step.{Contact, flowsAbove, upwardFlows, tooLongAt, tooLong, siteSteepness, leavesCurve, stepped}
@@ -146,7 +146,7 @@ module _ (r : Record) (is : isLayer r ≡ true) where
 
     -- ---- a step over these arrays is the rules'
 
-    elements-are : elements (recordSite r) (recordState r) ≡ elementsIn n excess resistance (sensitivitiesIn r)
+    elements-are : readElements (recordSite r) (recordState r) ≡ elementsIn n excess resistance (sensitivitiesIn r)
     unfolding recordSite recordState
     elements-are =
         elements-in (recordSite r) (recordState r) n (first-length n solids) (first-length n water) excess resistance (sensitivitiesIn r)
@@ -171,7 +171,7 @@ module _ (r : Record) (is : isLayer r ≡ true) where
       abbrev pub flows : List ℤ
       flows = flowsIn top bottom t n excess resistance
 
-      pub flows-are : flows ≡ upwardFlows top bottom t (elements (recordSite r) (recordState r))
+      pub flows-are : flows ≡ upwardFlows top bottom t (readElements (recordSite r) (recordState r))
       flows-are =
           rw elements-are
           (upward-flows-in n excess resistance [] top bottom t (counted r is .0) ∙ sym (upward-flows-in n excess resistance (sensitivitiesIn r) top bottom t (counted r is .0)))
@@ -185,7 +185,7 @@ module _ (r : Record) (is : isLayer r ≡ true) where
       stepped-is = rw flows-are refl
 
       pub above-are : (above : List ℤ) → filled above n (flowAbove top t n excess resistance) ≡
-          filled above n (λ j. getD (flowsAbove top t (elements (recordSite r) (recordState r))) j (pos 0))
+          filled above n (λ j. getD (flowsAbove top t (readElements (recordSite r) (recordState r))) j (pos 0))
       unfolding flowAbove
       above-are above =
           rw elements-are

@@ -22,7 +22,7 @@ use Rattle.numbers.proofs.Filled.{first-length}
 use Rattle.numbers.specs.Interval.{Within}
 use Rattle.numbers.specs.Lists.{firstOr, lastOr}
 use Rattle.numbers.proofs.Searches.{passed}
-use Rattle.rules.specs.Layer.{Site, State, elements}
+use Rattle.rules.specs.Layer.{Site, State, readElements}
 use Rattle.rules.specs.Calls.{called}
 use Rattle.rules.specs.declared.answers.Answered.{Answered}
 use Rattle.rules.specs.Outcome.{Outcome, refused, outcome}
@@ -103,8 +103,8 @@ within-as e h = rw e h
 -- ---- the outer flows of a step that is not too long are in range
 
 pub outer-flows : (r : Record) (is : isLayer r ≡ true) (t : ℕ) → 1 ≤ t → tooLong (recordSite r) (recordState r) t ≡ false →
-    OuterWithin t (firstOr (pos 0) (upwardFlows (r .layer .frame .top) (r .layer .frame .bottom) t (elements (recordSite r) (recordState r)))) ×
-    OuterWithin t (lastOr (pos 0) (upwardFlows (r .layer .frame .top) (r .layer .frame .bottom) t (elements (recordSite r) (recordState r))))
+    OuterWithin t (firstOr (pos 0) (upwardFlows (r .layer .frame .top) (r .layer .frame .bottom) t (readElements (recordSite r) (recordState r)))) ×
+    OuterWithin t (lastOr (pos 0) (upwardFlows (r .layer .frame .top) (r .layer .frame .bottom) t (readElements (recordSite r) (recordState r))))
 unfolding recordSite recordState firstPlaces siteSteepness
 outer-flows r is t h short =
     let n = (r .layer .frame .elements) in

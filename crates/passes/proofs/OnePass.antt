@@ -22,7 +22,7 @@ use Rattle.numbers.specs.Lists.{firstOr, lastOr}
 use Rattle.numbers.proofs.Searches.{by-test}
 use Rattle.rules.specs.Calls.{Ending, endedRun}
 use Rattle.rules.specs.Curve.{Point}
-use Rattle.rules.specs.Layer.{Site, State, elements}
+use Rattle.rules.specs.Layer.{Site, State, readElements}
 use Rattle.rules.specs.Load.{loadAt, nextTime, withLoad}
 use Rattle.rules.specs.Quantities.{elementLimits}
 use Rattle.rules.specs.Record.{recordSite, stateOf, recordState, progressOf, withParts, withState, isLayer}
@@ -74,8 +74,8 @@ module _ (r : Record) where
   found-stop stop (goes t) e = let z : _≡_ {A = ℕ} 0 1 = cc in absurd (omega arith)
 
   found-step : (t : ℕ) (first last : ℤ) (x : Turn) → Taken t first last ≡ gives r x →
-      (x ≡ goes t) × (first ≡ firstOr (pos 0) (upwardFlows (r .layer .frame .top) (r .layer .frame .bottom) t (elements (recordSite r) (recordState r)))) ×
-      (last ≡ lastOr (pos 0) (upwardFlows (r .layer .frame .top) (r .layer .frame .bottom) t (elements (recordSite r) (recordState r))))
+      (x ≡ goes t) × (first ≡ firstOr (pos 0) (upwardFlows (r .layer .frame .top) (r .layer .frame .bottom) t (readElements (recordSite r) (recordState r)))) ×
+      (last ≡ lastOr (pos 0) (upwardFlows (r .layer .frame .top) (r .layer .frame .bottom) t (readElements (recordSite r) (recordState r))))
   unfolding gives
   found-step t first last (stops other) e = let z : _≡_ {A = ℕ} 0 1 = cc in absurd (omega arith)
   found-step t first last (goes u) e = (cc, cc, cc)

@@ -14,7 +14,7 @@ use Rattle.lent.proofs.LayerReads.{steepness-range, readable, limited, bounds-m
 use Rattle.lent.specs.Worked.{WorkedOut, leastWaterIn, mostWaterIn, excessesIn, resistancesIn}
 use Rattle.numbers.specs.Lists.{firstOr, lastOr, greatest}
 use Rattle.passes.specs.Passing.{turned, flowsTurned}
-use Rattle.rules.specs.Layer.{Site, State, elements}
+use Rattle.rules.specs.Layer.{Site, State, readElements}
 use Rattle.rules.specs.Record.{recordSite, recordState, withState, isLayer}
 use Rattle.rules.specs.Run.{Turn, stops, goes, turn}
 use Rattle.rules.specs.Step.{upwardFlows, tooLong, leavesCurve}
@@ -26,10 +26,10 @@ use Rattle.step_length.specs.Reach.{Limited, longestWithin}
 
 -- what the longest step gives, by the rules' turn
 unfoldable pub gives : Record → Turn → Longest
-unfolding firstOr lastOr upwardFlows elements
+unfolding firstOr lastOr upwardFlows readElements
 gives r (stops stop) = NoneTaken stop
 gives r (goes t) =
-    let flows = upwardFlows (r .layer .frame .top) (r .layer .frame .bottom) t (elements (recordSite r) (recordState r)) in
+    let flows = upwardFlows (r .layer .frame .top) (r .layer .frame .bottom) t (readElements (recordSite r) (recordState r)) in
     Taken t (firstOr (pos 0) flows) (lastOr (pos 0) flows)
 
 -- a turn with a step, by whether it leaves the curve

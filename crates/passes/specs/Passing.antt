@@ -5,7 +5,7 @@ use lib.ListN.{getD}
 use mathlib.Core.List.{List}
 use Rattle.lent.specs.Progress.{loaded}
 use Rattle.numbers.specs.Arrays.{filled}
-use Rattle.rules.specs.Layer.{elements}
+use Rattle.rules.specs.Layer.{readElements}
 use Rattle.rules.specs.Load.{loadAt}
 use Rattle.rules.specs.Quantities.{pressure}
 use Rattle.rules.specs.Record.{recordSite, recordState, withParts, withState}
@@ -46,7 +46,7 @@ passedBy (goes t) after = Goes after
 
 -- the flows above the elements that it works out, where there is a step
 unfoldable pub flowsTurned : Record → (t : ℕ) (above : List ℤ) → List ℤ
-unfolding filled flowsAbove elements
+unfolding filled flowsAbove readElements
 flowsTurned r zero above = above
 flowsTurned r (suc t) above =
-    filled above (r .layer .frame .elements) (λ j. getD (flowsAbove (r .layer .frame .top) (suc t) (elements (recordSite r) (recordState r))) j (pos 0))
+    filled above (r .layer .frame .elements) (λ j. getD (flowsAbove (r .layer .frame .top) (suc t) (readElements (recordSite r) (recordState r))) j (pos 0))

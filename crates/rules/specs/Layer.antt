@@ -126,6 +126,6 @@ unfolding element tripled
 elementsFrom site load Bs Ss Ws = tripled (element site load) Bs Ss Ws
 
 -- all elements of the layer
-unfoldable pub elements : Site → State → List Element
+unfoldable pub readElements : Site → State → List Element
 unfolding elementsFrom burdens
-elements site s = elementsFrom site s.load (burdens site.gravity site.solids) site.solids s.water
+readElements site s = elementsFrom site s.load (burdens site.gravity site.solids) site.solids s.water

@@ -6,7 +6,7 @@ use mathlib.Core.Path.{_≡_}
 use Rattle.numbers.specs.Bytes.{bytes}
 use Rattle.numbers.specs.Lists.{paired}
 use Rattle.rules.specs.Quantities.{head, pressure, pressureOf}
-use Rattle.rules.specs.Layer.{State, skeleton, Element, elements, effectiveStress, burdens}
+use Rattle.rules.specs.Layer.{State, skeleton, Element, readElements, effectiveStress, burdens}
 use Rattle.rules.specs.Outcome.{answerNumber}
 use Rattle.rules.specs.Record.{recordSite, recordState}
 use Rattle.rules.specs.Opening.{opening}
@@ -67,8 +67,8 @@ unfolding specimenAfter recordState
 stateAfter calls = recordState ((specimenAfter calls) .after)
 
 unfoldable pub recordElements : Record → List Element
-unfolding elements recordSite recordState
-recordElements r = elements (recordSite r) (recordState r)
+unfolding readElements recordSite recordState
+recordElements r = readElements (recordSite r) (recordState r)
 
 unfoldable pub recordStresses : Record → List CurveValue
 unfolding paired effectiveStress recordSite recordState

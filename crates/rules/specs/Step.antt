@@ -10,7 +10,7 @@ use Rattle.numbers.specs.Rounding.{cut}
 use Rattle.numbers.specs.Lists.{all, any, paired, tripled, firstOr, lastOr}
 use Rattle.rules.specs.Quantities.{within, stepLimits, clockLimits}
 use Rattle.rules.specs.Curve.{curveSteepness, isOn}
-use Rattle.rules.specs.Layer.{Site, State, Skeleton, skeleton, Element, elements, effectiveStress}
+use Rattle.rules.specs.Layer.{Site, State, Skeleton, skeleton, Element, readElements, effectiveStress}
 use Rattle.rules.specs.Refusals.{_if_, firstCause}
 use Rattle.rules.specs.declared.quantities.Face.{Face}
 use Rattle.rules.specs.declared.quantities.Face.the-variants.{Closed, Drained}
@@ -60,9 +60,9 @@ newHeight old (negsuc below) = old
 
 -- the state after a step
 unfoldable pub stepped : Site → (t : ℕ) → State → State
-unfolding upwardFlows elements moved newHeight paired firstOr lastOr
+unfolding upwardFlows readElements moved newHeight paired firstOr lastOr
 stepped site t s =
-    let flows = upwardFlows site.top site.bottom t (elements site s) in
+    let flows = upwardFlows site.top site.bottom t (readElements site s) in
     record {
       water = paired newHeight s.water (moved flows s.water);
       load = s.load;
@@ -108,8 +108,8 @@ tooLongAt steepness t c = ltb c.faceResistance (2 * c.sensitivity * steepness * 
 
 -- a step is too long for some element and face of it
 unfoldable pub tooLong : Site → State → (t : ℕ) → Bool
-unfolding any tooLongAt contacts elements siteSteepness
-tooLong site s t = any (tooLongAt (siteSteepness site) t) (contacts site.top site.bottom (elements site s))
+unfolding any tooLongAt contacts readElements siteSteepness
+tooLong site s t = any (tooLongAt (siteSteepness site) t) (contacts site.top site.bottom (readElements site s))
 
 -- a water height is on the curve
 unfoldable pub onCurve : Skeleton → (S : ℕ) (W : ℤ) → Bool
@@ -124,9 +124,9 @@ allOnCurve soil solids water = all (λ on. on) (paired (onCurve soil) solids wat
 
 -- a step would take some element off the curve
 unfoldable pub leavesCurve : Site → State → (t : ℕ) → Bool
-unfolding allOnCurve moved upwardFlows elements
+unfolding allOnCurve moved upwardFlows readElements
 leavesCurve site s t =
-    not (allOnCurve (skeleton site) site.solids (moved (upwardFlows site.top site.bottom t (elements site s)) s.water))
+    not (allOnCurve (skeleton site) site.solids (moved (upwardFlows site.top site.bottom t (readElements site s)) s.water))
 
 -- why a step is refused, if it is: 13, 14, 15
 unfoldable pub stepRefusal : Site → State → (t : ℕ) → Option Refusal

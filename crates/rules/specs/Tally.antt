@@ -5,7 +5,7 @@ use mathlib.Core.List.{List, [], _∷_, _++_, map}
 use Rattle.numbers.specs.Integers.{up}
 use Rattle.numbers.specs.Lists.{paired}
 use Rattle.numbers.specs.Sums.{sum}
-use Rattle.rules.specs.Layer.{Site, State, elements, height}
+use Rattle.rules.specs.Layer.{Site, State, readElements, height}
 use Rattle.rules.specs.Run.{Event, loadSet, stepTaken, afterEvent}
 use Rattle.rules.specs.Start.{openingState}
 use Rattle.rules.specs.Outcome.{outcome}
@@ -91,8 +91,8 @@ stepTraces site (stepTaken t ∷ rest) s =
 
 -- the excess pressures of a state; of the first, they are the starting excesses
 unfoldable pub excesses : Site → State → List ℤ
-unfolding elements
-excesses site s = map (λ e. e .excess) (elements site s)
+unfolding readElements
+excesses site s = map (λ e. e .excess) (readElements site s)
 
 -- the water of a state, and its height; of the first, they are the starting water and the starting height
 unfoldable pub waterLeft : State → ℕ

@@ -31,7 +31,7 @@ use Rattle.numbers.proofs.Signed.{readBack}
 use Rattle.step_length.specs.Reach.{Limited, isTooLong}
 use Rattle.rules.proofs.Limits.{within-parts}
 use Rattle.rules.specs.Calls.{called}
-use Rattle.rules.specs.Layer.{State, elements}
+use Rattle.rules.specs.Layer.{State, readElements}
 use Rattle.rules.specs.Quantities.{stepLimits, clockLimits, waterLimits, outflowRate}
 use Rattle.rules.specs.Record.{recordSite, recordState, progressOf, withState, withEvents, isLayer}
 use Rattle.rules.specs.Run.{stepTaken, afterEvent, afterEvents}
@@ -278,7 +278,7 @@ module _ (c : tie.After-known-told) where
     progress-next =
         let flows = flows-are r₃ is₃ nothing none (t s₃) in
         ap (λ (z : ℤ). later (s₃ .args .progress) (t s₃) z last) (flowed .1 ∙ ap (firstOr (pos 0)) flows) ∙
-        ap (λ (z : ℤ). later (s₃ .args .progress) (t s₃) (firstOr (pos 0) (upwardFlows (s₃ .args .frame .top) (s₃ .args .frame .bottom) (t s₃) (elements (recordSite r₃) (recordState r₃)))) z) (flowed .2 ∙ ap (lastOr (pos 0)) flows)
+        ap (λ (z : ℤ). later (s₃ .args .progress) (t s₃) (firstOr (pos 0) (upwardFlows (s₃ .args .frame .top) (s₃ .args .frame .bottom) (t s₃) (readElements (recordSite r₃) (recordState r₃)))) z) (flowed .2 ∙ ap (lastOr (pos 0)) flows)
 
 enum-known-moved : tie.Need-enum-known-moved
 enum-known-moved c = search needs
