@@ -12,8 +12,8 @@ use Rattle.numbers.specs.Arrays.{firstPlaces}
 use Rattle.numbers.specs.Lists.{all}
 use Rattle.rules.proofs.Limits.{only-zero}
 use Rattle.rules.specs.Job.{Description, fieldsSound, givenWater, jobSite, numberedFace}
-use Rattle.rules.specs.Quantities.{within, withinℤ, levelLimits, solidsLimits, waterLimits, clockLimits, budgetLimits, from_to_, head}
-use Rattle.rules.specs.Record.{sizesSound, closedAtZero}
+use Rattle.rules.specs.Quantities.{within, withinℤ, levelLimits, clockLimits, budgetLimits, from_to_, head}
+use Rattle.rules.specs.Record.{heightsSound, sizesSound, closedAtZero}
 use Rattle.rules.specs.declared.quantities.Face.the-variants.{Closed, Drained}
 use Rattle.rules.specs.declared.quantities.Pressure.{Pressure}
 
@@ -39,46 +39,41 @@ exchanged true false true = refl
 exchanged true false false = refl
 exchanged false b c = refl
 
--- five tests after another
-grouped : (a b c d e f : Bool) → (a && b && c && d && e && f) ≡ (a && (b && c && d && e && f))
-grouped true b c d e f = refl
-grouped false b c d e f = refl
+-- four tests after another
+grouped : (a b c d e : Bool) → (a && b && c && d && e) ≡ (a && (b && c && d && e))
+grouped true b c d e = refl
+grouped false b c d e = refl
 
--- eight tests, the sixth put third
-reordered : (top bottom closed solid wet ended budgeted given : Bool) →
-    (top && bottom && closed && solid && wet && ended && budgeted && given) ≡
-    (top && bottom && ended && (closed && solid && wet && budgeted && given))
-reordered top bottom closed solid wet ended budgeted given =
-    rw (
-      exchanged (top && bottom && closed && solid) wet ended,
-      exchanged (top && bottom && closed) solid ended,
-      exchanged (top && bottom) closed ended,
-    )
-    (grouped (top && bottom && ended) closed solid wet budgeted given)
+-- seven tests, the fifth put third
+reordered : (top bottom closed heights ended budgeted given : Bool) →
+    (top && bottom && closed && heights && ended && budgeted && given) ≡ (top && bottom && ended && (closed && heights && budgeted && given))
+reordered top bottom closed heights ended budgeted given =
+    rw (exchanged (top && bottom && closed) heights ended, exchanged (top && bottom) closed ended)
+    (grouped (top && bottom && ended) closed heights budgeted given)
 
 module _ (d : Description) where
   -- the tests but those of levels and end
   abbrev pub others : Bool
   others =
       (not (eqb d.header.bottom 0) || eqb (d .header .«bottom_level») 0) &&
-      all (within solidsLimits) (firstPlaces d.header.elements d.solids) && all (within waterLimits) (firstPlaces d.header.elements d.water) &&
-      within budgetLimits d.header.budget && (eqb d.header.start 0 || all (within (from 0 to 0)) (firstPlaces d.header.elements d.water))
+      heightsSound (firstPlaces d.header.elements d.solids) (firstPlaces d.header.elements d.water) && within budgetLimits d.header.budget &&
+      (eqb d.header.start 0 || all (within (from 0 to 0)) (firstPlaces d.header.elements d.water))
 
   -- as they are tested
-  pub others-by : {solid wet budgeted dry rest : Bool} → solid ≡ all (within solidsLimits) (firstPlaces d.header.elements d.solids) →
-      wet ≡ all (within waterLimits) (firstPlaces d.header.elements d.water) → budgeted ≡ within budgetLimits d.header.budget →
+  pub others-by : {heights budgeted dry rest : Bool} →
+      heights ≡ heightsSound (firstPlaces d.header.elements d.solids) (firstPlaces d.header.elements d.water) →
+      budgeted ≡ within budgetLimits d.header.budget →
       dry ≡ all (within (from 0 to 0)) (firstPlaces d.header.elements d.water) →
-      ((not (eqb d.header.bottom 0) || eqb (d .header .«bottom_level») 0) && solid && wet && budgeted && (eqb d.header.start 0 || dry)) ≡ rest →
+      ((not (eqb d.header.bottom 0) || eqb (d .header .«bottom_level») 0) && heights && budgeted && (eqb d.header.start 0 || dry)) ≡ rest →
       others ≡ rest
-  others-by e₁ e₂ e₃ e₄ e = rw (← e₁, ← e₂, ← e₃, ← e₄) e
+  others-by e₁ e₂ e₃ e = rw (← e₁, ← e₂, ← e₃) e
 
   fields-by : fieldsSound d ≡ (within levelLimits (d .header .«top_level») && within levelLimits (d .header .«bottom_level») && within clockLimits d.header.end && others)
   unfolding fieldsSound sizesSound jobSite givenWater withinℤ
   fields-by =
       rw (closed-by, all-zero)
       (reordered (within levelLimits (d .header .«top_level»)) (within levelLimits (d .header .«bottom_level»))
-      (not (eqb d.header.bottom 0) || eqb (d .header .«bottom_level») 0) (all (within solidsLimits) (firstPlaces d.header.elements d.solids))
-      (all (within waterLimits) (firstPlaces d.header.elements d.water)) (within clockLimits d.header.end)
+      (not (eqb d.header.bottom 0) || eqb (d .header .«bottom_level») 0) (heightsSound (firstPlaces d.header.elements d.solids) (firstPlaces d.header.elements d.water)) (within clockLimits d.header.end)
       (within budgetLimits d.header.budget) (eqb d.header.start 0 || all (within (from 0 to 0)) (firstPlaces d.header.elements d.water)))
 
   -- the answer by the tests

@@ -38,8 +38,7 @@ pub fn check_fields<'a>(header: Header, solids: &'a [u64; 128], water: &'a [u64;
         return Fields::Outside;
     };
     let sound = ((bottom != 0) | (header.bottom_level == 0))
-        & sizes::all_within(elements, Kind::Solids, solids)
-        & sizes::all_within(elements, Kind::Water, water)
+        & sizes::heights_sound(elements, solids, water)
         & Budget::within(header.budget)
         & ((start == 0) | sizes::all_within(elements, Kind::Zero, water));
     if sound {

@@ -24,7 +24,7 @@ use Rattle.rules.specs.Curve.{Point, compressibilitySound, conductivitySound}
 use Rattle.rules.specs.Layer.{Site, State, skeletonOf, effectiveStress, topPressure, bottomPressure}
 use Rattle.rules.specs.Load.{tableSound}
 use Rattle.rules.specs.Quantities.{within, withinℤ, levelLimits, solidsLimits, waterLimits, stressLimits, clockLimits, startingWaterLimits, outflowRate}
-use Rattle.rules.specs.Record.{formSound, faceNumber, closedAtZero, sizesSound, faceHolds, outflowWithin, isLayer}
+use Rattle.rules.specs.Record.{formSound, faceNumber, closedAtZero, heightsSound, sizesSound, faceHolds, outflowWithin, isLayer}
 use Rattle.rules.specs.Record.{recordSite, recordState, withState, withEvents}
 use Rattle.rules.specs.Run.{Event, afterEvents}
 use Rattle.rules.specs.Step.{onCurve, allOnCurve}
@@ -53,16 +53,29 @@ pub record Fixed (r : Record) : Type 0 where
 
 -- ---- the site is sound
 
--- levels and solids, the sizes without water
 abbrev levels : Site → Bool
 levels site = withinℤ levelLimits site.topLevel && withinℤ levelLimits site.bottomLevel
 
-abbrev dry : Site → Bool
-dry site = levels site && closedAtZero site.bottom site.bottomLevel && all (within solidsLimits) site.solids
+abbrev leveled : Site → Bool
+leveled site = levels site && closedAtZero site.bottom site.bottomLevel
+
+-- levels and solids: the sizes without water
+dry : (site : Site) (water : List ℕ) → T (sizesSound site water) → T (leveled site) × T (all (within solidsLimits) site.solids)
+unfolding sizesSound
+dry site water t =
+    let (kept, heights) = both (leveled site) (heightsSound site.solids water) t in
+    (kept, both (all (within solidsLimits) site.solids) (all (within waterLimits) water) heights .0)
+
+-- and with water
+wet : (site : Site) (water : List ℕ) → T (leveled site) × T (all (within solidsLimits) site.solids) → T (all (within waterLimits) water) → T (sizesSound site water)
+unfolding sizesSound
+wet site water sizes each =
+    joined (leveled site) (heightsSound site.solids water) (sizes .0)
+    (joined (all (within solidsLimits) site.solids) (all (within waterLimits) water) (sizes .1) each)
 
 pub sized-dry : (site : Site) (water : List ℕ) → T (sizesSound site water) → T (sizesSound site [])
-unfolding sizesSound
-sized-dry site water t = joined (dry site) true (both (dry site) (all (within waterLimits) water) t .0) tt
+unfolding all
+sized-dry site water t = wet site [] (dry site water t) tt
 
 holds-of : (face : Face) (held : Pressure) → faceHolds face held ≡ true → Holds (λ p. p ≡ held .0) face
 unfolding faceHolds Holds
@@ -70,15 +83,14 @@ holds-of Closed held e = tt
 holds-of (Drained other) held e = eqℤ→eq (other .0) (held .0) (passed e)
 
 pub sound-site : (r : Record) → Fixed r → SoundSite (recordSite r)
-unfolding recordSite sizesSound topPressure
+unfolding recordSite topPressure
 sound-site r f =
     let site = recordSite r in
     let header = sound-header _ _ _ _ _ _ _ _ (f .header) in
     let closed = closedAtZero (r .layer .frame .bottom) (site .bottomLevel) in
-    let all-dry = both (dry site) true (passed (f .sizes)) .0 in
-    let (kept, solids) = both (levels site && closed) (all (within solidsLimits) (site .solids)) all-dry in
-    let leveled = both (levels site) closed kept .0 in
-    let (top, bottom) = both (withinℤ levelLimits (site .topLevel)) (withinℤ levelLimits (site .bottomLevel)) leveled in
+    let (kept, solids) = dry site [] (passed (f .sizes)) in
+    let within-levels = both (levels site) closed kept .0 in
+    let (top, bottom) = both (withinℤ levelLimits (site .topLevel)) (withinℤ levelLimits (site .bottomLevel)) within-levels in
     let each = every-all (within solidsLimits) (site .solids) .0 solids in
     record {
       compressibility = passed (f .compressibility);
@@ -118,7 +130,6 @@ outflow-kept outflow clock w = is-true _ (le→leb (natAbs outflow) (outflowRate
 
 module _ (r : Record) (f : Fixed r) (k : Kept (recordSite r) (r .layer .frame .«starting_water») (recordState r)) where
   water-sized : sizesSound (recordSite r) ((recordState r) .water) ≡ true
-  unfolding sizesSound
   water-sized =
       let site = recordSite r in
       let sound = sound-site r f in
@@ -127,9 +138,7 @@ module _ (r : Record) (f : Fixed r) (k : Kept (recordSite r) (r .layer .frame .�
       water-limited (site .compressibility) (site .solids) water (sound .compressibility) (sound .solid) (sound .small) (k .size) (k .on-curve) in
       let each =
       every-map (λ W. W ≤ waterLimits .most) (λ W. T (within waterLimits W)) (λ W h. passed (inside waterLimits W (omega arith) h)) water most in
-      is-true _
-      (joined (dry site) (all (within waterLimits) water) (both (dry site) true (passed (f .sizes)) .0)
-      (every-all (within waterLimits) water .1 each))
+      is-true _ (wet site water (dry site [] (passed (f .sizes))) (every-all (within waterLimits) water .1 each))
 
   pub is-layer : isLayer r ≡ true
   unfolding isLayer

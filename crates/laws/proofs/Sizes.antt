@@ -15,7 +15,7 @@ use Rattle.numbers.proofs.Signed.{signed}
 use Rattle.rules.proofs.Limits.{within-parts}
 use Rattle.rules.specs.Layer.{Site}
 use Rattle.rules.specs.Quantities.{Limits, within, withinℤ, levelLimits, solidsLimits, waterLimits}
-use Rattle.rules.specs.Record.{closedAtZero, sizesSound}
+use Rattle.rules.specs.Record.{closedAtZero, heightsSound, sizesSound}
 
 -- a signed number that keeps limits from 0 up lies between them
 pub signed-between : (limits : Limits) (z : ℤ) → T (withinℤ limits z) → Between (pos (limits .least)) (pos (limits .most)) z
@@ -44,8 +44,8 @@ unfolding sizesSound
 sound-sizes site n solids water same e =
     let levels = withinℤ levelLimits site.topLevel && withinℤ levelLimits site.bottomLevel in
     let three = levels && closedAtZero site.bottom site.bottomLevel in
-    let (four, waters) = both (three && all (within solidsLimits) site.solids) (all (within waterLimits) (firstPlaces n water)) (passed e) in
-    let (first3, solid) = both three (all (within solidsLimits) site.solids) four in
+    let (first3, heights) = both three (heightsSound site.solids (firstPlaces n water)) (passed e) in
+    let (solid, waters) = both (all (within solidsLimits) site.solids) (all (within waterLimits) (firstPlaces n water)) heights in
     let (first2, closed) = both levels (closedAtZero site.bottom site.bottomLevel) first3 in
     let (top, bottom) = both (withinℤ levelLimits site.topLevel) (withinℤ levelLimits site.bottomLevel) first2 in
     let all-solids : T (all (within solidsLimits) (firstPlaces n solids)) = rw (same) at solid in

@@ -5,7 +5,7 @@ ghost use Rattle.numbers.specs.Arrays.{firstPlaces};
 ghost use Rattle.numbers.specs.Lists.{all};
 ghost use Rattle.rules.specs.Layer.{Site};
 ghost use Rattle.rules.specs.Quantities.{within, elementLimits, limitsOf};
-ghost use Rattle.rules.specs.Record.{sizesSound};
+ghost use Rattle.rules.specs.Record.{heightsSound, sizesSound};
 use crate::faces;
 use rules::quantities::Face;
 use rules::quantities::Head;
@@ -26,6 +26,14 @@ pub fn all_within(elements: usize, kind: Kind, numbers: &[u64; 128]) -> bool
     true
 }
 
+// Whether the solids and the water of the first elements keep their limits.
+pub fn heights_sound<'a>(elements: usize, solids: &'a [u64; 128], water: &'a [u64; 128]) -> bool
+    requires { ⌜ elements ≤ elementLimits .most ⌝ }
+    ensures { λ r. ⌜ r ≡ heightsSound (firstPlaces elements (now (solids .entry))) (firstPlaces elements (now (water .entry))) ⌝ }
+{
+    all_within(elements, Kind::Solids, solids) & all_within(elements, Kind::Water, water)
+}
+
 // Whether levels, solids and water keep their limits, and a closed bottom has level 0.
 pub fn sizes_sound<'a>(
     elements: usize,
@@ -41,6 +49,5 @@ pub fn sizes_sound<'a>(
     top_level.is_level()
         & bottom_level.is_level()
         & faces::closed_has_no_level(bottom, bottom_level)
-        & all_within(elements, Kind::Solids, solids)
-        & all_within(elements, Kind::Water, water)
+        & heights_sound(elements, solids, water)
 }

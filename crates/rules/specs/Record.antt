@@ -43,12 +43,16 @@ unfoldable pub closedAtZero : Face → (bottomLevel : ℤ) → Bool
 closedAtZero Closed bottomLevel = eqℤ bottomLevel (pos 0)
 closedAtZero (Drained held) bottomLevel = true
 
+-- cause 5, of solids and water
+abbrev pub heightsSound : (solids water : List ℕ) → Bool
+heightsSound solids water = all (within solidsLimits) solids && all (within waterLimits) water
+
 -- cause 5, of levels, solids and water
 unfoldable pub sizesSound : Site → (water : List ℕ) → Bool
 unfolding withinℤ within closedAtZero all
 sizesSound site water =
     withinℤ levelLimits site.topLevel && withinℤ levelLimits site.bottomLevel && closedAtZero site.bottom site.bottomLevel &&
-    all (within solidsLimits) site.solids && all (within waterLimits) water
+    heightsSound site.solids water
 
 -- a soil and a layer from their parts, and a record: the one place that builds one
 abbrev pub soilOf : CurveCounts → (compressibilityVoid compressibilityStress conductivityVoid conductivity : List ℕ) → Soil

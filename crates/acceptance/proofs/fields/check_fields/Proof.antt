@@ -77,25 +77,22 @@ returns-3 c void stress conductivityVoid conductivity tableTime tableLoad =
     sym (fields-answer (d (t .before .before .before .before) void stress conductivityVoid conductivity tableTime tableLoad) (top-told t .0)
     (bottom-told b .0) (clock-tells _ (sym (c .enum-told4 .given .1) ∙ n .new3 .ensures)) refl)
 
-all-within-requires : tie.Need-all-within-requires
-all-within-requires c κs = search needs
-
-all-within-requires-2 : tie.Need-all-within-requires-2
-all-within-requires-2 c κs = search needs
+heights-sound-requires : tie.Need-heights-sound-requires
+heights-sound-requires c κs = search needs
 
 within-requires : tie.Need-within-requires
 within-requires c κs = search needs
 
-all-within-requires-3 : tie.Need-all-within-requires-3
-all-within-requires-3 c κs = search needs
+all-within-requires : tie.Need-all-within-requires
+all-within-requires c κs = search needs
 
 -- once all are tested
-module _ (c : tie.After-all-within3) (void stress conductivityVoid conductivity tableTime tableLoad : List ℕ) where
+module _ (c : tie.After-all-within) (void stress conductivityVoid conductivity tableTime tableLoad : List ℕ) where
   abbrev h : tie.After-within
   h = c .before
 
   abbrev k : tie.After-struct-known
-  k = h .before .before .before
+  k = h .before .before
 
   abbrev b : tie.After-known-told2
   b = k .before .before .before .before
@@ -125,12 +122,12 @@ returns-4 c void stress conductivityVoid conductivity tableTime tableLoad =
     let top = top-told (t a void stress conductivityVoid conductivity tableTime tableLoad) .1 in
     let bottom = bottom-told (b a void stress conductivityVoid conductivity tableTime tableLoad) .1 in
     (λ i. Within (top i) (bottom i)) ∙
-    told a void stress conductivityVoid conductivity tableTime tableLoad (others-by (described a void stress conductivityVoid conductivity tableTime tableLoad) (a .before .before .before .all-within .ensures) (a .before .before .all-within2 .ensures) (a .before .within .ensures) (a .all-within3 .ensures) (c .if1 .taken))
+    told a void stress conductivityVoid conductivity tableTime tableLoad (others-by (described a void stress conductivityVoid conductivity tableTime tableLoad) (a .before .before .heights-sound .ensures) (a .before .within .ensures) (a .all-within .ensures) (c .if1 .taken))
 
 returns-5 : tie.Need-returns-5
 returns-5 c void stress conductivityVoid conductivity tableTime tableLoad =
     let a = c .before in
-    told a void stress conductivityVoid conductivity tableTime tableLoad (others-by (described a void stress conductivityVoid conductivity tableTime tableLoad) (a .before .before .before .all-within .ensures) (a .before .before .all-within2 .ensures) (a .before .within .ensures) (a .all-within3 .ensures) (c .if1 .left))
+    told a void stress conductivityVoid conductivity tableTime tableLoad (others-by (described a void stress conductivityVoid conductivity tableTime tableLoad) (a .before .before .heights-sound .ensures) (a .before .within .ensures) (a .all-within .ensures) (c .if1 .left))
 
 pub check-fields-spec : {M : Type 1} → statement M
 check-fields-spec =
@@ -148,9 +145,8 @@ check-fields-spec =
     enum-told-3
     enum-told-4
     returns-3
-    all-within-requires
-    all-within-requires-2
+    heights-sound-requires
     within-requires
-    all-within-requires-3
+    all-within-requires
     returns-4
     returns-5)

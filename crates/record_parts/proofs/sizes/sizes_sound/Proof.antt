@@ -12,21 +12,17 @@ is-level-requires-2 c κs = search needs
 closed-has-no-level-requires : tie.Need-closed-has-no-level-requires
 closed-has-no-level-requires c κs = search needs
 
-all-within-requires : tie.Need-all-within-requires
-all-within-requires c κs = search needs
-
-all-within-requires-2 : tie.Need-all-within-requires-2
-all-within-requires-2 c κs = search needs
+heights-sound-requires : tie.Need-heights-sound-requires
+heights-sound-requires c κs = search needs
 
 returns : tie.Need-returns
 unfolding sizesSound
 returns c site top bottom face solids =
     rw (
-      c .before .before .before .before .is-level .ensures,
-      c .before .before .before .is-level2 .ensures,
-      c .before .before .closed-has-no-level .ensures,
-      c .before .all-within .ensures,
-      c .all-within2 .ensures,
+      c .before .before .before .is-level .ensures,
+      c .before .before .is-level2 .ensures,
+      c .before .closed-has-no-level .ensures,
+      c .heights-sound .ensures,
       top,
       bottom,
       face,
@@ -40,6 +36,5 @@ sizes-sound-spec =
     is-level-requires
     is-level-requires-2
     closed-has-no-level-requires
-    all-within-requires
-    all-within-requires-2
+    heights-sound-requires
     returns)
