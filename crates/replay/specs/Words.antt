@@ -3,10 +3,8 @@ use Prim.Native.Nat.{ℕ, zero, suc, _+_, _*_, _/_, min}
 use lib.ListN.{length, getD}
 use mathlib.Core.List.{List, [], _∷_, _++_}
 use Rattle.numbers.specs.Arrays.{tabulate}
-use Rattle.rules.specs.Outcome.{answerNumber}
-use Rattle.rules.specs.Run.{stopNumber}
+use Rattle.rules.specs.Outcome.{answerNumbers}
 use Rattle.rules.specs.declared.answers.Answer.{Answer}
-use Rattle.rules.specs.declared.answers.Answer.the-variants.{Done, Ran, Refused}
 use Rattle.rules.specs.declared.answers.Call.{Call}
 use Rattle.rules.specs.declared.answers.Call.the-variants.{Load, Step, Run}
 
@@ -30,22 +28,9 @@ unfoldable pub callsIn : (words slice : List ℕ) → List Call
 unfolding tabulate callAt
 callsIn words slice = tabulate (callCount (length words) (length slice)) (callAt words)
 
--- the number of a run's stop; 0 where none stopped
-unfoldable pub answerStop : Answer → ℕ
-unfolding stopNumber
-answerStop Done = 0
-answerStop (Ran stop steps) = stopNumber stop
-answerStop (Refused cause) = 0
-
--- the number of a run's steps; 0 where none ran
-unfoldable pub answerSteps : Answer → ℕ
-answerSteps Done = 0
-answerSteps (Ran stop steps) = steps
-answerSteps (Refused cause) = 0
-
 -- an answer's refusal number, stop and number of steps
 abbrev pub answerWords : Answer → List ℕ
-answerWords answer = answerNumber answer ∷ answerStop answer ∷ answerSteps answer ∷ []
+answerWords answer = let numbers = answerNumbers answer in numbers .refusal ∷ numbers .stop ∷ numbers .steps ∷ []
 
 -- the words of every answer
 unfoldable pub allWords : List Answer → List ℕ

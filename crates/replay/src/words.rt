@@ -3,11 +3,12 @@ ghost use lib.ListN.{length};
 ghost use lib.Seq.{sets};
 ghost use mathlib.Core.Path.{_≡_};
 ghost use Prim.Native.Nat.{_+_, _≤_};
-ghost use Rattle.replay.specs.Words.{answerStop, answerSteps, answerWords};
+ghost use Rattle.replay.specs.Words.{answerWords};
+ghost use Rattle.rules.specs.Outcome.{answerNumbers};
 use rules::answers::Answer;
 
 pub fn answer_stop(answer: Answer) -> u64
-    ensures { λ r. ⌜ r ≡ answerStop answer ⌝ }
+    ensures { λ r. ⌜ r ≡ (answerNumbers answer) .stop ⌝ }
 {
     match answer {
         Answer::Done => 0,
@@ -17,7 +18,7 @@ pub fn answer_stop(answer: Answer) -> u64
 }
 
 pub fn answer_steps(answer: Answer) -> u64
-    ensures { λ r. ⌜ r ≡ answerSteps answer ⌝ }
+    ensures { λ r. ⌜ r ≡ (answerNumbers answer) .steps ⌝ }
 {
     match answer {
         Answer::Done => 0,

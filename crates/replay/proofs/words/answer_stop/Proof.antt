@@ -1,5 +1,5 @@
 use borrow.Author.Needs.{needs}
-use Rattle.replay.specs.Words.{answerStop}
+use Rattle.rules.specs.Outcome.{answerNumbers}
 use Rattle.replay.proofs.words.answer_stop.Statement.{statement}
 use Rattle.replay.proofs.words.answer_stop.Tie as tie
 
@@ -16,15 +16,15 @@ enum-told-2 : tie.Need-enum-told-2
 enum-told-2 c = search needs
 
 returns : tie.Need-returns
-unfolding answerStop
+unfolding answerNumbers
 returns c = search needs
 
 returns-2 : tie.Need-returns-2
-unfolding answerStop
+unfolding answerNumbers
 returns-2 c = search needs
 
 returns-3 : tie.Need-returns-3
-unfolding answerStop
+unfolding answerNumbers
 returns-3 c = search needs
 
 pub answer-stop-spec : {M : Type 1} → statement M

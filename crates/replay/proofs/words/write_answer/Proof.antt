@@ -2,6 +2,7 @@ use native.Mathlib.Omega.{arith}
 use lib.ListN.{length-set}
 use borrow.Author.Needs.{needs}
 use Rattle.replay.proofs.WordLaws.{three-stores}
+use Rattle.rules.specs.Outcome.{answerNumber}
 use Rattle.replay.proofs.words.write_answer.Statement.{statement}
 use Rattle.replay.proofs.words.write_answer.Tie as tie
 
@@ -42,6 +43,7 @@ same-length : tie.Need-same-length
 same-length c = search needs
 
 returns : tie.Need-returns
+unfolding answerNumber
 returns c =
     let s = c .before .before .before .before in
     rw (c .before .before .answer-number .ensures, c .before .answer-stop .ensures, c .answer-steps .ensures)
