@@ -24,7 +24,7 @@ use Rattle.rules.specs.Opening.{refusedOpening, opening}
 use Rattle.rules.specs.Program.{digits, refusedLine, inputMost, programOutput}
 use Rattle.rules.specs.Quantities.{elementLimits}
 use Rattle.rules.specs.Refusals.{refusalNumber}
-use Rattle.rules.specs.Result.{Returned, refusedResult, resultSize}
+use Rattle.rules.specs.Result.{Returned, refusedResult, resultSize, resultMost}
 use Rattle.rules.specs.declared.answers.Answer.the-variants.{Done}
 use Rattle.rules.specs.declared.answers.Answered.{Answered}
 
@@ -55,7 +55,7 @@ module _ (job buffer : List ℕ) (e : (key job buffer) .number ≡ 0) where
   elements-few = kept-header ((described job) .header) (described-sound job (opened job accepted .no-cause) .header) .elements-kept .most
 
   -- whose result is no longer than the longest
-  pub size-few : resultSize ((described job) .header .elements) ≤ 5_176
+  pub size-few : resultSize ((described job) .header .elements) ≤ resultMost
   unfolding resultSize
   size-few = omega (arith, elements-few)
 
@@ -71,28 +71,28 @@ written job x accepted =
 
 module _ (job : List ℕ) (short : length job ≤ inputMost) where
   abbrev returned : Returned
-  returned = key job (zeros 5_176)
+  returned = key job (zeros resultMost)
 
   output-is : programOutput job ≡ written job returned (eqb (returned .number) 0)
   unfolding programOutput
   output-is =
-      ap (λ (j : List ℕ). let x = key j (zeros 5_176) in written j x (eqb (x .number) 0)) (take-all inputMost job short)
+      ap (λ (j : List ℕ). let x = key j (zeros resultMost) in written j x (eqb (x .number) 0)) (take-all inputMost job short)
 
   by-test : (b : Bool) → eqb (returned .number) 0 ≡ b → programOutput job ≡ written job returned b
   by-test b e = output-is ∙ ap (λ (b : Bool). written job returned b) e
 
 -- a blank buffer's length
-pub room-is : {buffer : List ℕ} → buffer ≡ zeros 5_176 → length buffer ≡ 5_176
+pub room-is : {buffer : List ℕ} → buffer ≡ zeros resultMost → length buffer ≡ resultMost
 unfolding zeros
-room-is blank = rw blank (length-replicate {A = ℕ} 5_176 0)
+room-is blank = rw blank (length-replicate {A = ℕ} resultMost 0)
 
 -- what a key in a blank buffer has written
-module _ (job buffer : List ℕ) (short : length job ≤ inputMost) (blank : buffer ≡ zeros 5_176) (number : ℕ) (out : List ℕ)
+module _ (job buffer : List ℕ) (short : length job ≤ inputMost) (blank : buffer ≡ zeros resultMost) (number : ℕ) (out : List ℕ)
     (number-is : number ≡ (key job buffer) .number) (out-is : out ≡ (key job buffer) .buffer) where
   -- number 0: the first bytes of the buffer
   front-is : (size : ℕ) → number ≡ 0 → size ≡ resultSize ((described job) .header .elements) → take size out ≡ programOutput job
   front-is size e s =
-      let zero : (key job (zeros 5_176)) .number ≡ 0 = rw (← blank) (sym number-is ∙ e) in
+      let zero : (key job (zeros resultMost)) .number ≡ 0 = rw (← blank) (sym number-is ∙ e) in
       rw (s, out-is, blank) (sym (by-test job short true (eq-eqb _ 0 zero)))
 
   pub result-written : (size : ℕ) → number ≡ 0 → size ≡ resultSize ((described job) .header .elements) → length out ≡ length buffer →
@@ -106,7 +106,7 @@ module _ (job buffer : List ℕ) (short : length job ≤ inputMost) (blank : buf
   -- any other: the refusal
   refusal-is : (number ≡ 0 → ⊥) → refusedLine number ≡ programOutput job
   refusal-is h =
-      let same : number ≡ (key job (zeros 5_176)) .number = rw (← blank) number-is in
+      let same : number ≡ (key job (zeros resultMost)) .number = rw (← blank) number-is in
       rw same (sym (by-test job short false (ne-eqb _ 0 (λ z. h (same ∙ z)))))
 
   pub refusal-written : (last : List ℕ) (size : ℕ) → (number ≡ 0 → ⊥) →

@@ -4,6 +4,7 @@ ghost use mathlib.Core.Path.{_≡_};
 ghost use Prim.Native.Nat.{_≤_, _<_};
 ghost use Rattle.numbers.specs.Arrays.{overlaid, zeros};
 ghost use Rattle.rules.specs.Program.{refusedLine, inputMost, programOutput};
+ghost use Rattle.rules.specs.Result.{resultMost};
 use libc::STDIN_FILENO;
 use libc::STDOUT_FILENO;
 
@@ -36,7 +37,7 @@ fn refused_line(number: u32, out: &mut [u8]) -> usize
 
 // Stores what is written for a job at the start of a buffer, and gives its length.
 fn answer(job: &[u8], out: &mut [u8]) -> usize
-    requires { ⌜ (length (now job) ≤ inputMost) × (now out ≡ zeros 5_176) ⌝ }
+    requires { ⌜ (length (now job) ≤ inputMost) × (now out ≡ zeros resultMost) ⌝ }
     ensures { λ r. ⌜ (now (out .exit) ≡ overlaid (programOutput (now (job .entry))) (now (out .entry))) × (r ≡ length (programOutput (now (job .entry)))) ⌝ }
 {
     let number = key::consolidation_key(job, out);

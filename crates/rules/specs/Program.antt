@@ -7,7 +7,7 @@ use mathlib.Core.List.{List, [], _∷_, _++_}
 use Rattle.numbers.specs.Arrays.{zeros}
 use Rattle.rules.specs.Job.{described}
 use Rattle.rules.specs.Key.{key}
-use Rattle.rules.specs.Result.{resultSize}
+use Rattle.rules.specs.Result.{resultSize, resultMost}
 
 -- the digits of a number below 100
 unfoldable pub digits : ℕ → List ℕ
@@ -27,7 +27,7 @@ unfoldable pub programOutput : (input : List ℕ) → List ℕ
 unfolding key zeros described refusedLine resultSize
 programOutput input =
     let job = take inputMost input in
-    let returned = key job (zeros (resultSize 128)) in
+    let returned = key job (zeros resultMost) in
     elim (eqb (returned .number) 0) [
       | true ↦ take (resultSize ((described job) .header .elements)) (returned .buffer)
       | false ↦ refusedLine (returned .number)

@@ -12,7 +12,7 @@ use Rattle.numbers.specs.Integers.{up, signedField}
 use Rattle.numbers.specs.Lists.{paired, tripled, appended}
 use Rattle.numbers.specs.Rounding.{floor}
 use Rattle.numbers.specs.Sums.{sum}
-use Rattle.rules.specs.Quantities.{head, pressureOf}
+use Rattle.rules.specs.Quantities.{head, pressureOf, elementLimits}
 use Rattle.rules.specs.Curve.{valueOf}
 use Rattle.rules.specs.Layer.{Skeleton, skeleton, height, voidRatio, effectiveStress, burdens, excessPressure}
 use Rattle.rules.specs.Record.{recordSite, recordState, isLayer}
@@ -104,6 +104,10 @@ resultBytes r stop steps =
 -- the length of a result of so many elements
 unfoldable pub resultSize : (elements : ℕ) → ℕ
 resultSize elements = 56 + 40 * elements
+
+-- that of the longest
+abbrev pub resultMost : ℕ
+resultMost = resultSize (elementLimits .most)
 
 -- why a result is refused, if it is: 11, then 10
 unfoldable pub resultRefusal : Record → (room : ℕ) → Option Refusal

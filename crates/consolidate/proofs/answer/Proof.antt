@@ -5,7 +5,7 @@ use Rattle.consolidate.proofs.Program.{whole, elements-few, room-is, re
 use Rattle.key.proofs.KeyLaws.{key-numbers}
 use Rattle.rules.specs.Job.{described}
 use Rattle.rules.specs.Key.{key}
-use Rattle.rules.specs.Result.{resultSize}
+use Rattle.rules.specs.Result.{resultSize, resultMost, resultSize}
 use borrow.Author.Needs.{needs}
 use Rattle.consolidate.proofs.answer.Statement.{statement}
 use Rattle.consolidate.proofs.answer.Tie as tie
@@ -14,7 +14,7 @@ consolidation-key-requires : tie.Need-consolidation-key-requires
 consolidation-key-requires c κs = search needs
 
 -- the buffer's length
-room-of : (k : tie.After-consolidation-key) → length (k .before .before .before .before .args .out .now) ≡ 5_176
+room-of : (k : tie.After-consolidation-key) → length (k .before .before .before .before .args .out .now) ≡ resultMost
 room-of k = room-is (k .before .before .before .before .pre .1)
 
 -- which the key keeps
@@ -22,6 +22,7 @@ kept : (o : tie.After-out) → length (o .before .consolidation-key .last .1 .0)
 kept o = search needs
 
 refused-line-requires : tie.Need-refused-line-requires
+unfolding resultSize
 refused-line-requires c κs =
     let k = c .before .before .before .before in
     let s = k .before .before .before .before in

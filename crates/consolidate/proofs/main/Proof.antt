@@ -1,6 +1,7 @@
 use lib.Seq.{length-take-le}
 use mathlib.Core.Path.{refl, sym}
 use Rattle.numbers.specs.Arrays.{zeros}
+use Rattle.rules.specs.Result.{resultSize}
 use borrow.Author.Needs.{needs}
 use Rattle.consolidate.proofs.Program.{written-fits}
 use Rattle.consolidate.proofs.main.Statement.{statement}
@@ -22,7 +23,7 @@ slice-aggregate-answer-2 : tie.Need-slice-aggregate-answer-2
 slice-aggregate-answer-2 c = search needs
 
 answer-requires : tie.Need-answer-requires
-unfolding zeros
+unfolding zeros resultSize
 answer-requires c κs = (search needs, refl)
 
 array-share-prefix-out : tie.Need-array-share-prefix-out
