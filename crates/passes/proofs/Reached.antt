@@ -30,7 +30,7 @@ use Rattle.passes.proofs.Given.{Given, given}
 
 module _ (r : Record) (is : isLayer r ≡ true) where
   -- what no call changes
-  fixed : Fixed r
+  pub fixed : Fixed r
   unfolding isLayer
   fixed =
       let p = site-parts r (is-true (siteSound r) (both (siteSound r) (stateSound r) (passed is) .0)) in
@@ -49,7 +49,7 @@ module _ (r : Record) (is : isLayer r ≡ true) where
   sound = sound-site r fixed
 
   -- a layer's state is kept
-  kept : Kept (recordSite r) (r .layer .frame .«starting_water») (recordState r)
+  pub kept : Kept (recordSite r) (r .layer .frame .«starting_water») (recordState r)
   unfolding recordSite recordState
   kept =
       let s = state-is r is in
