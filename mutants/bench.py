@@ -4,10 +4,10 @@ from __future__ import annotations
 
 import os
 import shutil
-from typing import Dict, Tuple
+from typing import Dict, Sequence, Tuple
 
 import program
-from catalogue import Mutant
+from catalogue import Mutant, texts_with
 from checker import PROVED, CheckerError, Kit, Verdict
 
 
@@ -45,7 +45,7 @@ class Primed:
 
 
 class Bench:
-    """A copy of a crate and of its incremental folder, in which one mutant after the other is judged."""
+    """A copy of a crate and of its incremental folder, in which mutants are judged, one check after the other."""
 
     def __init__(self, primed: Primed, folder: str) -> None:
         self.primed = primed
@@ -60,19 +60,21 @@ class Bench:
     def judge_as_it_is(self, promised: bool = False) -> Verdict:
         return judged(self.primed.kit, self.primed.crate, self.folder, self.incremental, promised)
 
-    def judge(self, mutant: Mutant) -> Verdict:
-        """The verdict on a mutant. Both folders are then as they were, so that no verdict rests on another mutant."""
-        path = os.path.join(self.folder, os.path.relpath(mutant.path, os.path.join("crates", mutant.crate)))
-        with open(path, encoding="utf-8") as file:
-            text = file.read()
-        with open(path, "w", encoding="utf-8") as file:
-            file.write(mutant.text)
+    def judge(self, mutants: Sequence[Mutant]) -> Verdict:
+        """The verdict on some mutants in one check. Both folders are then as they were, so that no verdict rests on an
+        earlier check."""
+        before = {mutant.file: mutant.original for mutant in mutants}
         try:
-            return self.judge_as_it_is(mutant.promised)
+            self.write(texts_with(mutants))
+            return self.judge_as_it_is(all(mutant.promised for mutant in mutants))
         finally:
-            with open(path, "w", encoding="utf-8") as file:
-                file.write(text)
+            self.write(before)
             self.restore()
+
+    def write(self, texts: Dict[str, str]) -> None:
+        for name, text in texts.items():
+            with open(os.path.join(self.folder, name), "w", encoding="utf-8") as file:
+                file.write(text)
 
     def restore(self) -> None:
         now = stamps(self.incremental)

@@ -10,7 +10,7 @@ from collections import Counter
 from dataclasses import dataclass
 from typing import Dict, List, Sequence, Tuple
 
-from changes import applied, changes_of
+from changes import Change, changes_of, with_changes
 from declared import Declared
 from source import Body, Source, read_source
 
@@ -30,7 +30,17 @@ class Mutant:
     change: str
     within: str
     id: str
-    text: str
+    edit: Change
+    original: str
+
+    @property
+    def file(self) -> str:
+        """Its path below the crate's folder."""
+        return os.path.relpath(self.path, os.path.join("crates", self.crate))
+
+    @property
+    def proof(self) -> str:
+        return proof_of(self.file, self.function)
 
     @property
     def name(self) -> str:
@@ -40,6 +50,23 @@ class Mutant:
     @property
     def shown(self) -> str:
         return f"{self.path}:{self.line} {self.kind}: {self.change}"
+
+
+def proof_of(file: str, function: str) -> str:
+    """Where the proof of a function stands if it is written; both paths are below the crate's folder."""
+    modules = os.path.splitext(file)[0].split(os.sep)[1:]
+    if modules in (["lib"], ["main"]):
+        modules = []
+    return os.path.join("proofs", *modules, *function.split("::"), "Proof.antt")
+
+
+def texts_with(mutants: Sequence[Mutant]) -> Dict[str, str]:
+    """The files of some mutants of a crate, by their paths below its folder, each with all changes of it."""
+    originals = {mutant.file: mutant.original for mutant in mutants}
+    return {
+        file: with_changes(text, [mutant.edit for mutant in mutants if mutant.file == file])
+        for file, text in originals.items()
+    }
 
 
 def one_line(text: str) -> str:
@@ -80,7 +107,8 @@ def mutants_of_body(crate: str, source: Source, body: Body, declared: Declared) 
                 shown,
                 within,
                 digest,
-                applied(source, change),
+                change,
+                source.text,
             )
         )
     return found

@@ -4,7 +4,7 @@ from __future__ import annotations
 
 import re
 from dataclasses import dataclass
-from typing import Iterator, List, Set, Tuple
+from typing import Iterator, List, Sequence, Set, Tuple
 
 from body import HEADS, Reading
 from declared import Declared, may_stand_for
@@ -265,4 +265,13 @@ def changes_of(source: Source, body: Body, declared: Declared) -> List[Change]:
 
 
 def applied(source: Source, change: Change) -> str:
-    return source.text[: change.start] + change.new + source.text[change.end :]
+    return with_changes(source.text, [change])
+
+
+def with_changes(text: str, changes: Sequence[Change]) -> str:
+    """The text with some changes of it, no two of which meet."""
+    ordered = sorted(changes, key=lambda change: change.start)
+    assert all(one.end <= other.start for one, other in zip(ordered, ordered[1:]))
+    for change in reversed(ordered):
+        text = text[: change.start] + change.new + text[change.end :]
+    return text

@@ -21,9 +21,10 @@ BY_SHAPE = "refused by the proof's shape"
 NO_PROGRAM = "not a program"
 NOT_TOLD = "not told"
 
-FRONT_END = re.compile(r"^\S+\.rt:\d+:\d+: error\[[a-z0-9-]+\]: ", re.MULTILINE)
-PROOF_ERROR = re.compile(r"^\S+:\d+:\d+: error: (?:`([^`]*)`: )?(.*(?:\n  .*)*)", re.MULTILINE)
-UNPROVED = re.compile(r"^note: \S+: it is not proved that ", re.MULTILINE)
+# What the checker says of a program, of a proof that is written and of one that it makes itself, each with its place.
+FRONT_END = re.compile(r"^(\S+\.rt:\d+:\d+): error\[[a-z0-9-]+\]: ", re.MULTILINE)
+PROOF_ERROR = re.compile(r"^(\S+:\d+:\d+): error: (?:`([^`]*)`: )?(.*(?:\n  .*)*)", re.MULTILINE)
+UNPROVED = re.compile(r"^note: (\S+): it is not proved that ", re.MULTILINE)
 # An error that only follows from another.
 FOLLOWS = re.compile(r"was not admitted \(it has holes or undetermined implicits, or was rejected\)")
 # An error at what the proof expects of the code: a need, a field of what is known at a place, a local of a loop.
@@ -50,18 +51,20 @@ def verdict(status: int, said: str) -> Verdict:
     if status == 0 and proved and not refused:
         return Verdict(PROVED, said)
     if status == 1 and refused and not proved:
-        return Verdict(AT_A_FACT if at_a_fact(said) else BY_SHAPE, said)
+        return Verdict(AT_A_FACT if facts(said) else BY_SHAPE, said)
     if status == 1 and not proved and not refused and FRONT_END.search(said):
         return Verdict(NO_PROGRAM, said)
     return Verdict(NOT_TOLD, said)
 
 
-def at_a_fact(said: str) -> bool:
-    """Whether some need is refused for what it says. A proof's last line, `F-spec`, only puts the needs together."""
-    return UNPROVED.search(said) is not None or any(
-        not declaration.endswith("-spec") and not FOLLOWS.search(error) and not SHAPE.search(error)
-        for declaration, error in PROOF_ERROR.findall(said)
-    )
+def facts(said: str) -> List[str]:
+    """The places where some need is refused for what it says. A proof's last line, `F-spec`, only puts the needs
+    together."""
+    return UNPROVED.findall(said) + [
+        place
+        for place, declaration, error in PROOF_ERROR.findall(said)
+        if not declaration.endswith("-spec") and not FOLLOWS.search(error) and not SHAPE.search(error)
+    ]
 
 
 class Kit:

@@ -1,6 +1,7 @@
 #!/usr/bin/env python3
 """Changes one operator, number, argument or branch of a function's body at a time; the checker must refuse each.
-Where a function of a program promises nothing, the program must write something else than the gate wants.
+Where a function of a program promises nothing, the program must write something else than the gate wants. One check
+judges mutants of several functions where it can (rounds.py).
 
     python3 mutants.py [COUNT [SEED]]    COUNT of the mutants, drawn by SEED (1 if not given); all without COUNT
         --crate NAME     only those of a crate; may be given again
@@ -23,7 +24,7 @@ import threading
 import time
 from collections import Counter
 from concurrent.futures import ThreadPoolExecutor
-from typing import Dict, List, Optional, Sequence
+from typing import Dict, List, Optional, Sequence, Set
 
 HERE = os.path.dirname(os.path.abspath(__file__))
 ROOT = os.path.dirname(HERE)
@@ -36,6 +37,7 @@ from changes import KINDS  # noqa: E402
 from checker import AT_A_FACT, BY_SHAPE, NO_PROGRAM, NOT_TOLD, PROVED  # noqa: E402
 from checker import CheckerError, Kit, Verdict  # noqa: E402
 from program import BY_OUTPUT, TESTS  # noqa: E402
+from rounds import Told, next_round, told  # noqa: E402
 from source import SourceError  # noqa: E402
 
 LIST = os.path.join(HERE, "same_program.txt")
@@ -54,14 +56,14 @@ COLUMNS = (
 
 
 class Schedule:
-    """Which crate a worker takes next: one that nobody has begun, else one that has mutants left."""
+    """Which crate a worker takes next, one that nobody has begun or else one that has mutants left, and which of its
+    mutants."""
 
-    def __init__(self, mutants: Sequence[Mutant]) -> None:
+    def __init__(self, mutants: Sequence[Mutant], alone: Set[Mutant]) -> None:
         self.left: Dict[str, List[Mutant]] = {}
         for mutant in mutants:
             self.left.setdefault(mutant.crate, []).append(mutant)
-        for some in self.left.values():
-            some.reverse()
+        self.alone = alone
         self.unbegun = list(self.left)
         self.primed: Dict[str, Primed] = {}
         self.workers: Counter = Counter()
@@ -71,13 +73,12 @@ class Schedule:
     def take_crate(self) -> Optional[str]:
         with self.change:
             while not self.stopped:
-                begun = [crate for crate in self.left if self.left[crate] and crate not in self.unbegun]
-                ready = [crate for crate in begun if crate in self.primed]
+                ready = [crate for crate in self.left if self.left[crate] and crate in self.primed]
                 if self.unbegun or ready:
                     crate = self.unbegun.pop(0) if self.unbegun else max(ready, key=lambda one: len(self.left[one]))
                     self.workers[crate] += 1
                     return crate
-                if not begun:
+                if not any(self.workers.values()):
                     return None
                 self.change.wait()
         return None
@@ -88,15 +89,22 @@ class Schedule:
             self.workers[crate] -= 1
             if not self.workers[crate] and not self.left[crate]:
                 shutil.rmtree(self.primed[crate].incremental)
+            self.change.notify_all()
 
     def ready(self, crate: str, primed: Primed) -> None:
         with self.change:
             self.primed[crate] = primed
             self.change.notify_all()
 
-    def take_mutant(self, crate: str) -> Optional[Mutant]:
+    def take_mutants(self, crate: str) -> List[Mutant]:
         with self.change:
-            return self.left[crate].pop() if self.left[crate] and not self.stopped else None
+            return [] if self.stopped else next_round(self.left[crate], self.alone)
+
+    def give_back(self, crate: str, found: Told) -> None:
+        with self.change:
+            self.alone.update(found.alone)
+            self.left[crate] = found.alone + found.again + self.left[crate]
+            self.change.notify_all()
 
     def stop(self) -> None:
         with self.change:
@@ -115,7 +123,8 @@ class Run:
         self.jobs = jobs
         self.keep = keep
         self.count = len(mutants)
-        self.schedule = Schedule(mutants)
+        alone = {mutant for mutant in mutants if not mutant.promised or mutant.name in listed}
+        self.schedule = Schedule(mutants, alone)
         self.results: Dict[Mutant, str] = {}
         self.needless: List[Mutant] = []
         self.seconds: Dict[str, float] = {}
@@ -135,15 +144,24 @@ class Run:
             raise
 
     def check_crate(self, crate: str, bench: Bench) -> None:
-        while (mutant := self.schedule.take_mutant(crate)) is not None:
+        while mutants := self.schedule.take_mutants(crate):
             began = time.monotonic()
-            found = bench.judge(mutant)
-            self.record(mutant, found, time.monotonic() - began)
+            found = bench.judge(mutants)
+            seconds = time.monotonic() - began
+            of_each = told(mutants, found, bench.folder)
+            self.schedule.give_back(crate, of_each)
+            self.spend(crate, seconds)
+            for mutant in of_each.decided:
+                self.record(mutant, found, f"{seconds:.1f} s, {len(mutants)} in one check")
         found = bench.judge_as_it_is()
         if found.answer != PROVED:
             raise CheckerError(f"{found.said}\n{crate} does not pass as it is, after its mutants")
 
-    def record(self, mutant: Mutant, found: Verdict, seconds: float) -> None:
+    def spend(self, crate: str, seconds: float) -> None:
+        with self.lock:
+            self.seconds[crate] = self.seconds.get(crate, 0) + seconds
+
+    def record(self, mutant: Mutant, found: Verdict, check: str) -> None:
         result = SURVIVES if found.answer == PROVED else found.answer
         listed = mutant.name in self.listed
         with self.lock:
@@ -152,13 +170,12 @@ class Run:
             elif listed:
                 self.needless.append(mutant)
             self.results[mutant] = result
-            self.seconds[mutant.crate] = self.seconds.get(mutant.crate, 0) + seconds
             print(f"mutant {len(self.results)} of {self.count}: {mutant.shown}: {result}", flush=True)
             if result == NOT_TOLD:
                 print(found.said[-2000:], flush=True)
             if self.keep is not None:
                 with open(os.path.join(self.keep, mutant.id), "w", encoding="utf-8") as file:
-                    file.write(f"{mutant.name}\n{result}\n{seconds:.1f} s\n{found.said}")
+                    file.write(f"{mutant.name}\n{result}\n{check}\n{found.said}")
             self.say_time_left()
 
     def say_time_left(self) -> None:

@@ -44,12 +44,13 @@ class Token:
 
 @dataclass(frozen=True)
 class Body:
-    """A function's body or a constant's value: its name and the places of its first token and of the one after it.
-    A function without an `ensures` and a constant promise nothing."""
+    """A function's body or a constant's value: its name and the places of its `fn` or `const`, of its first token and
+    of the one after it. A function without an `ensures` and a constant promise nothing."""
 
     name: str
     constant: bool
     promised: bool
+    head: int
     first: int
     last: int
 
@@ -104,6 +105,11 @@ class Source:
     def between(self, first: int, last: int) -> str:
         start, end = self.span(first, last)
         return self.text[start:end]
+
+    def names_at(self, line: int) -> List[str]:
+        """The names of the bodies whose items have a part of a line."""
+        spans = {body.name: self.span(body.head, body.last + 1) for body in self.bodies}
+        return [name for name, (start, end) in spans.items() if self.line(start) <= line <= self.line(end)]
 
 
 def without_contracts(text: str) -> str:
@@ -180,13 +186,13 @@ def bodies(source: Source, place: int, last: int, owner: str) -> Iterator[Body]:
             if start is None or tokens[start].text == ";":
                 raise SourceError(f"{source.path}: {tokens[place + 1].text} has no body")
             promised = has_promise(source.text[tokens[place].start : tokens[start].start])
-            yield Body(owner + tokens[place + 1].text, False, promised, start + 1, source.partner[start])
+            yield Body(owner + tokens[place + 1].text, False, promised, place, start + 1, source.partner[start])
             place = start
         elif word == "const":
             value = source.find(place, last, "=")
             end = source.find(place, last, ";")
             assert value is not None and end is not None
-            yield Body(owner + tokens[place + 1].text, True, False, value + 1, end)
+            yield Body(owner + tokens[place + 1].text, True, False, place, value + 1, end)
             place = end
         elif word == "impl":
             start = source.find(place, last, "{")

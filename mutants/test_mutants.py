@@ -4,6 +4,9 @@ status 1 when a test fails."""
 
 from __future__ import annotations
 
+import contextlib
+import glob
+import io
 import os
 import sys
 import tempfile
@@ -18,8 +21,11 @@ sys.path.insert(0, HERE)
 import bench  # noqa: E402
 import catalogue  # noqa: E402
 import checker  # noqa: E402
+import mutants  # noqa: E402
 import program  # noqa: E402
-from changes import Change, applied, changes_of  # noqa: E402
+import rounds  # noqa: E402
+from catalogue import Mutant, proof_of, texts_with  # noqa: E402
+from changes import Change, applied, changes_of, with_changes  # noqa: E402
 from declared import Declared  # noqa: E402
 from literals import byte_literal, byte_of, with_number  # noqa: E402
 from source import Source, SourceError, read_source  # noqa: E402
@@ -183,17 +189,24 @@ class Changes(unittest.TestCase):
     def test_no_text_twice(self) -> None:
         for crate in catalogue.crate_names(ROOT):
             found = catalogue.all_mutants(ROOT, [crate])
-            self.assertEqual(len(found), len({(mutant.path, mutant.text) for mutant in found}))
+            texts = {(mutant.path, texts_with([mutant])[mutant.file]) for mutant in found}
+            self.assertEqual(len(found), len(texts))
+
+
+def mutants_in(texts: Dict[str, str]) -> List[Mutant]:
+    """The mutants of a crate whose files have these texts."""
+    with tempfile.TemporaryDirectory() as root:
+        os.makedirs(os.path.join(root, "crates", "one", "src"))
+        files = {f"crates/one/src/{name}": text for name, text in texts.items()}
+        for path, content in {"crates.txt": "# ones\none: numbers\n", **files}.items():
+            with open(os.path.join(root, path), "w", encoding="utf-8") as file:
+                file.write(content)
+        return catalogue.all_mutants(root, catalogue.crate_names(root))
 
 
 class Names(unittest.TestCase):
-    def mutants(self, text: str) -> List[catalogue.Mutant]:
-        with tempfile.TemporaryDirectory() as root:
-            os.makedirs(os.path.join(root, "crates", "one", "src"))
-            for path, content in (("crates.txt", "# ones\none: numbers\n"), ("crates/one/src/lib.rt", text)):
-                with open(os.path.join(root, path), "w", encoding="utf-8") as file:
-                    file.write(content)
-            return catalogue.all_mutants(root, catalogue.crate_names(root))
+    def mutants(self, text: str) -> List[Mutant]:
+        return mutants_in({"lib.rt": text})
 
     def test_names_stay_when_other_lines_change(self) -> None:
         before = self.mutants(function("    a + 1"))
@@ -262,6 +275,178 @@ class Verdicts(unittest.TestCase):
         proved = "logic=proved functions=1\n"
         for status, said in ((3, "rattle: no verdict\n"), (2, "a\n"), (1, "killed\n"), (0, ""), (1, proved), (-9, "")):
             self.assertEqual(checker.NOT_TOLD, self.answer(status, said))
+
+
+# Four functions, three of which have one name.
+FILES = {
+    "lib.rt": function("    g(\n        a,\n    );\n    a + 1") + function("    a - 2").replace("fn f", "fn g"),
+    "checks.rt": "impl Head {\n" + function("    a + 3") + "}\n\n" + function("    a + 4"),
+}
+F, G, HEAD_F, CHECKS_F = (f"proofs/{path}/Proof.antt" for path in ("f", "g", "checks/Head/f", "checks/f"))
+FOLDER = "/bench/one"
+FACT = "`returns`: expected type `a`, but this has type `b`"
+SHAPED = "`add`: module `M` has no `Need-add` that can be named from here"
+FOLLOWING = "`returns`: `h` was not admitted (it has holes or undetermined implicits, or was rejected), so"
+
+
+def error_in(path: str, words: str = FACT) -> str:
+    return f"{FOLDER}/{path}:1:2: error: {words}\n"
+
+
+def note_at(place: str) -> str:
+    return f"note: {FOLDER}/{place}: it is not proved that the sum fits its type (`add`)\n"
+
+
+class Rounds(unittest.TestCase):
+    """What one check tells of a mutant of each function. The one of `f` takes two lines from its file."""
+
+    def setUp(self) -> None:
+        found = mutants_in(FILES)
+        firsts = {mutant.proof: mutant for mutant in reversed(found)}
+        self.round = [firsts[proof] for proof in (F, G, HEAD_F, CHECKS_F)]
+        self.assertEqual("g( a, ); -> nothing", self.round[0].change)
+
+    def told(self, status: int, said: str) -> List[List[str]]:
+        """The proofs of those that are decided, of those to judge alone, and of those to judge again."""
+        found = rounds.told(self.round, checker.verdict(status, said), FOLDER)
+        return [[mutant.proof for mutant in some] for some in (found.decided, found.alone, found.again)]
+
+    def assert_decided(self, proofs: List[str], said: str) -> None:
+        others = [mutant.proof for mutant in self.round if mutant.proof not in proofs]
+        self.assertEqual([proofs, others, []], self.told(1, said + "logic=not-proved\n"), said)
+
+    def test_changes_are_made_where_the_text_had_them(self) -> None:
+        one, other = Change("number", 1, 2, "xyz"), Change("number", 4, 6, "")
+        for some in ([one, other], [other, one]):
+            self.assertEqual("axyzcd", with_changes("abcdef", some))
+        with self.assertRaises(AssertionError):
+            with_changes("abcdef", [one, Change("number", 0, 2, "")])
+
+    def test_every_file_has_all_its_changes(self) -> None:
+        lib = FILES["lib.rt"].replace("g(\n        a,\n    );", "").replace("a - 2", "a + 2")
+        checks = FILES["checks.rt"].replace("a +", "a -")
+        self.assertEqual({"src/lib.rt": lib, "src/checks.rt": checks}, texts_with(self.round))
+
+    def test_every_written_proof_is_a_functions(self) -> None:
+        self.assertEqual(F, proof_of("src/main.rt", "f"))
+        for crate in catalogue.crate_names(ROOT):
+            folder = os.path.join(ROOT, "crates", crate)
+            proofs = {
+                proof_of(os.path.relpath(source.path, os.path.join("crates", crate)), body.name)
+                for source in catalogue.sources_of(ROOT, crate)
+                for body in source.bodies
+            }
+            for path in glob.glob(os.path.join(folder, "proofs", "**", "Proof.antt"), recursive=True):
+                self.assertIn(rounds.owner(f"{path}:1:1", folder, {}), proofs)
+
+    def test_an_error_in_a_proof_decides_on_its_function(self) -> None:
+        for proof in (F, G, HEAD_F, CHECKS_F):
+            self.assert_decided([proof], error_in(proof))
+        self.assert_decided([G, CHECKS_F], error_in(CHECKS_F) + error_in(F, FOLLOWING) + error_in(G))
+        self.assert_decided([G], error_in("proofs/+g/Proof.antt"))
+
+    def test_an_error_that_follows_or_is_of_the_shape_decides_nothing(self) -> None:
+        for words in (FOLLOWING, SHAPED, FACT.replace("returns", "f-spec")):
+            self.assert_decided([G], error_in(F, words) + error_in(G))
+            self.assert_decided([], error_in(F, words))
+
+    def test_a_note_decides_on_the_function_that_it_stands_at(self) -> None:
+        for line, proof in ((1, F), (6, F), (7, G), (11, G)):
+            self.assert_decided([proof], note_at(f"src/lib.rt:{line}:1"))
+        for line, proof in ((2, HEAD_F), (6, HEAD_F), (9, CHECKS_F)):
+            self.assert_decided([proof], note_at(f"src/checks.rt:{line}:1"))
+
+    def test_nothing_is_decided_where_something_else_is_refused(self) -> None:
+        others = ("proofs/Laws.antt", "proofs/h/Proof.antt", "proofs/Head/f/Proof.antt", "proofs/+f+g/Proof.antt")
+        for other in others:
+            self.assert_decided([], error_in(G) + error_in(other))
+        for place in ("src/lib.rt:99:1", "src/checks.rt:8:1", "src/other.rt:1:1", "src/lib.rt"):
+            self.assert_decided([], error_in(G) + note_at(place))
+
+    def test_what_is_no_program_leaves_the_round(self) -> None:
+        named = f"{FOLDER}/src/lib.rt:7:1: error[mismatched-types]: expected `i64`\n"
+        self.assertEqual([[], [G], [F, HEAD_F, CHECKS_F]], self.told(1, named))
+        unnamed = named.replace(":7:", ":99:")
+        self.assertEqual([[], [F, G, HEAD_F, CHECKS_F], []], self.told(1, unnamed))
+
+    def test_no_verdict_and_a_proof_decide_nothing(self) -> None:
+        for status, said in ((3, error_in(G)), (0, "logic=proved functions=4\n"), (1, error_in(G))):
+            self.assertEqual([[], [F, G, HEAD_F, CHECKS_F], []], self.told(status, said))
+
+    def test_a_check_of_one_decides(self) -> None:
+        for status, said in ((3, ""), (0, "logic=proved functions=4\n"), (1, error_in(F) + "logic=not-proved\n")):
+            found = rounds.told(self.round[1:2], checker.verdict(status, said), FOLDER)
+            self.assertEqual((self.round[1:2], [], []), (found.decided, found.alone, found.again))
+
+    def test_a_round_takes_one_of_each_function(self) -> None:
+        everything = mutants_in(FILES)
+        single = everything[-1]
+        left, taken = list(everything), []
+        while some := rounds.next_round(left, {single}):
+            taken.append(some)
+        self.assertEqual([single], taken[0])
+        self.assertEqual([HEAD_F, CHECKS_F, F, G], [mutant.proof for mutant in taken[1]])
+        for some in taken:
+            self.assertEqual(len(some), len({mutant.proof for mutant in some}))
+        self.assertEqual(sorted(one.id for one in everything), sorted(one.id for some in taken for one in some))
+
+
+class Runs(unittest.TestCase):
+    """A run of all mutants with a checker that has an answer for each."""
+
+    answers = ("fact", "fact", "shape", "survives", "fact", "no program", "fact", "not told")
+
+    def setUp(self) -> None:
+        self.all = mutants_in(FILES)
+        self.answer = {mutant: self.answers[at % len(self.answers)] for at, mutant in enumerate(self.all)}
+        self.checks: List[List[Mutant]] = []
+
+    def judge(self, some: List[Mutant]) -> checker.Verdict:
+        self.checks.append(some)
+        answers = {self.answer[mutant] for mutant in some}
+        if "no program" in answers:
+            places = [self.place(mutant, some) for mutant in some if self.answer[mutant] == "no program"]
+            return checker.verdict(1, "".join(f"{place}: error[mismatched-types]: `i64`\n" for place in places))
+        if "not told" in answers:
+            return checker.verdict(3, "rattle: no verdict\n")
+        words = {"fact": FACT, "shape": SHAPED}
+        errors = [error_in(mutant.proof, words[self.answer[mutant]]) for mutant in some if self.answer[mutant] in words]
+        if not errors:
+            return checker.verdict(0, "logic=proved functions=4\n")
+        return checker.verdict(1, "".join(errors) + "logic=not-proved\n")
+
+    def place(self, mutant: Mutant, some: List[Mutant]) -> str:
+        """Where the function of a mutant stands when some are applied."""
+        source = read_source(mutant.file, texts_with(some)[mutant.file])
+        body = next(body for body in source.bodies if body.name == mutant.function)
+        return f"{FOLDER}/{mutant.file}:{source.line(source.tokens[body.first].start)}:1"
+
+    def results(self, jobs: int) -> Dict[Mutant, str]:
+        def primed(_kit: object, _crate: str, folder: str) -> mock.Mock:
+            os.makedirs(folder)
+            return mock.Mock(incremental=folder)
+
+        proved = checker.Verdict(checker.PROVED, "")
+        bench_made = mock.Mock(folder=FOLDER, judge=self.judge, judge_as_it_is=lambda: proved)
+        run = mutants.Run(mock.Mock(), self.all, {self.all[3].name: "Equal."}, jobs, None)
+        with mock.patch.object(mutants, "Primed", primed), mock.patch.object(mutants, "Bench", return_value=bench_made):
+            with contextlib.redirect_stdout(io.StringIO()) as said:
+                run.check_all()
+        self.assertEqual(len(self.all), said.getvalue().count("\nmutant ") + 1)
+        return run.results
+
+    def test_rounds_give_the_results_of_single_checks(self) -> None:
+        alone = {mutant: self.judge([mutant]).answer for mutant in self.all}
+        expected = {one: mutants.SURVIVES if answer == checker.PROVED else answer for one, answer in alone.items()}
+        expected[self.all[3]] = mutants.SAME
+        for jobs in (1, 2, 3):
+            self.checks = []
+            self.assertEqual(expected, self.results(jobs))
+            for mutant in self.all:
+                if self.answer[mutant] != "fact":
+                    self.assertIn([mutant], self.checks)
+            self.assertTrue(any(len(some) == 4 for some in self.checks))
+            self.assertNotIn(self.all[3], [mutant for some in self.checks if len(some) > 1 for mutant in some])
 
 
 class Programs(unittest.TestCase):
