@@ -110,13 +110,13 @@ class Kit:
         return found + ["--logic-built", f"{self.own}/logic-built", "--incremental", incremental]
 
     def check(self, crate: str, folder: str, incremental: str) -> Verdict:
-        return asked(self.words("check", crate, folder, incremental))
+        return asked(self.words("check", crate, folder, incremental), os.path.dirname(incremental))
 
     def build(self, crate: str, folder: str, incremental: str, program: str) -> Verdict:
         """The checker's verdict on a program, which is also compiled and linked where it is proved."""
         tools = ["--toolchain", self.tools]
         words = self.words("build", crate, folder, incremental)
-        found = asked(words + tools + ["-o", f"{program}.o"])
+        found = asked(words + tools + ["-o", f"{program}.o"], os.path.dirname(incremental))
         if found.answer != PROVED:
             return found
         link = [os.path.join(self.own, "bin", "rattle-link"), "--target", "x86_64-unknown-linux-gnu"]
@@ -128,12 +128,13 @@ class Kit:
         return Verdict(PROVED if ended.returncode == 0 else NOT_TOLD, said)
 
 
-def asked(words: List[str]) -> Verdict:
-    """What the checker answers to a command."""
+def asked(words: List[str], room: str) -> Verdict:
+    """What the checker answers to a command. What it writes only for itself stands in a folder while it runs."""
     limited = ["sh", "-c", 'ulimit -t "$0" && exec "$@"', str(SECONDS)]
     try:
         ended = subprocess.run(
             limited + words,
+            env={**os.environ, "TMPDIR": room},
             stdin=subprocess.DEVNULL,
             stdout=subprocess.PIPE,
             stderr=subprocess.STDOUT,

@@ -10,7 +10,8 @@ judges mutants of several functions where it can (rounds.py).
         --keep FOLDER    keep there what the checker, or the program, says of each
 
 A mutant that is the same program stands in same_program.txt with its reason. Exit status 1 where another one passes, or
-nothing is told of it. MUTANTS_JOBS is how many checks run at a time.
+nothing is told of it. MUTANTS_JOBS is how many checks run at a time. Their files stand in the folder TMPDIR or, without
+it, in memory where that has room.
 """
 
 from __future__ import annotations
@@ -41,6 +42,10 @@ from rounds import Told, next_round, told  # noqa: E402
 from source import SourceError  # noqa: E402
 
 LIST = os.path.join(HERE, "same_program.txt")
+
+# A folder whose files are kept in memory, and what the files of one worker take there at most.
+MEMORY = "/dev/shm"
+ROOM = 512 << 20
 
 SAME = "the same program, as listed"
 SURVIVES = "SURVIVES"
@@ -191,7 +196,8 @@ class Run:
         print(f"about {int(left / self.jobs / 60) + 1} minutes left", flush=True)
 
     def check_all(self) -> None:
-        with tempfile.TemporaryDirectory(prefix="mutants-") as folder, ThreadPoolExecutor(self.jobs) as pool:
+        place = memory(self.jobs)
+        with tempfile.TemporaryDirectory(prefix="mutants-", dir=place) as folder, ThreadPoolExecutor(self.jobs) as pool:
             workers = [pool.submit(self.work, folder) for _ in range(self.jobs)]
             try:
                 for worker in workers:
@@ -231,6 +237,15 @@ def report(run: Run, crates: Sequence[str], minutes: float) -> int:
         f" {bad} survive or are not told; {minutes:.0f} minutes"
     )
     return 1 if bad else 0
+
+
+def memory(jobs: int) -> Optional[str]:
+    """A folder in memory that has room for so many workers, if there is one and no other is asked for. Each check
+    writes thousands of files and removes them."""
+    if "TMPDIR" in os.environ or not os.access(MEMORY, os.W_OK):
+        return None
+    found = os.statvfs(MEMORY)
+    return MEMORY if found.f_bavail * found.f_frsize >= jobs * ROOM else None
 
 
 def jobs_wanted() -> int:

@@ -1,15 +1,15 @@
 """Rounds: one check of a crate in which one mutant of each of several functions is applied.
 
-Why a round is as good as a check of each mutant alone: the checker proves functions apart. Of what a function calls, its
-proof cites the contract, and the theorem that this is met; code and proof are private to their own function. So a change
-of one body reaches the proof of another function only where that cites a theorem which is no longer admitted, and there
-the checker says just this. Nor does it stop at the first error: it says those of every proof. What it says against a
-function besides therefore comes from the change in this function, and it would say so of this change alone.
+Why a round is as good as a check of each mutant alone: the checker proves functions apart. Of what a function calls
+its proof cites the contract and the theorem that this is met; code and proof are private to their own function. So a
+change of one body reaches the proof of another function only where that cites a theorem which is no longer admitted,
+and there the checker says just this. Nor does it stop at the first error: it says those of every proof. What it says
+against a function besides therefore comes from the change in this function, and it would say so of this change alone.
 
 A round decides only on a mutant that it refuses at a fact: a need of the mutant's own function is refused for what it
-says, by an error in this function's proof or, where the checker makes the proof, by a note at this function's code. Of
-any other mutant a round tells nothing, and it is judged alone. So whatever survives has passed a check of its own. Where
-a need is refused of anything that was not changed, a round decides nothing at all.
+says, by an error in this function's proof or, where the checker makes the proof, by a note at this function's code.
+Of any other mutant a round tells nothing, and it is judged alone. So whatever survives has passed a check of its own.
+Where a need is refused of anything that was not changed, a round decides nothing at all.
 """
 
 from __future__ import annotations
@@ -48,7 +48,8 @@ def next_round(left: List[Mutant], alone: Set[Mutant]) -> List[Mutant]:
 
 
 def owner(place: str, folder: str, texts: Dict[str, str]) -> Optional[str]:
-    """The path of the proof of the function that a place belongs to, if it is one in a proof or in a changed file."""
+    """The path of the proof that a place belongs to: of the file that it is in or, in the code of a changed file, of the
+    proof of the function there."""
     found = PLACE.fullmatch(place)
     if found is None:
         return None

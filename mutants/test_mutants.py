@@ -11,7 +11,7 @@ import os
 import sys
 import tempfile
 import unittest
-from typing import Dict, List
+from typing import Dict, List, Optional
 from unittest import mock
 
 HERE = os.path.dirname(os.path.abspath(__file__))
@@ -447,6 +447,24 @@ class Runs(unittest.TestCase):
                     self.assertIn([mutant], self.checks)
             self.assertTrue(any(len(some) == 4 for some in self.checks))
             self.assertNotIn(self.all[3], [mutant for some in self.checks if len(some) > 1 for mutant in some])
+
+
+class Memory(unittest.TestCase):
+    def place(self, blocks: int, variables: Dict[str, str]) -> Optional[str]:
+        found = mock.Mock(f_bavail=blocks, f_frsize=4096)
+        with mock.patch.dict(os.environ, variables, clear=True), mock.patch.object(os, "access", return_value=True):
+            with mock.patch.object(os, "statvfs", return_value=found):
+                return mutants.memory(2)
+
+    def test_files_stand_in_memory_where_there_is_room(self) -> None:
+        self.assertEqual(mutants.MEMORY, self.place(2 * mutants.ROOM // 4096, {}))
+        self.assertIsNone(self.place(2 * mutants.ROOM // 4096 - 1, {}))
+
+    def test_a_folder_that_is_asked_for_is_taken(self) -> None:
+        self.assertIsNone(self.place(2 * mutants.ROOM // 4096, {"TMPDIR": "/elsewhere"}))
+
+    def test_the_checker_writes_where_it_is_told(self) -> None:
+        self.assertEqual("/room\n", checker.asked(["sh", "-c", 'echo "$TMPDIR"'], "/room").said)
 
 
 class Programs(unittest.TestCase):
