@@ -1,4 +1,4 @@
-// A step that reads the layer, and moves its water.
+// A step over arrays: the longest that is not too long, and moving the water.
 ghost use lib.IntN.{ℤ};
 ghost use lib.ListN.{length, getD};
 ghost use mathlib.Core.Bool.{true};
