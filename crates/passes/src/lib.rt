@@ -72,8 +72,6 @@ pub fn pass<'a>(
     let clock = progress.clock.0;
     let load = table::load_at(frame.table_points, table_time, table_load, clock);
     let under = state::loaded(progress, load);
-    let next = table::next_time(frame.table_points, table_time, clock, end);
-    let most = numbers::lesser(Seconds::MOST, numbers::lesser(end, next) - clock);
     read::read_elements(
         elements,
         load,
@@ -90,6 +88,8 @@ pub fn pass<'a>(
         excess,
         resistance,
     );
+    let next = table::next_time(frame.table_points, table_time, clock, end);
+    let most = numbers::lesser(Seconds::MOST, numbers::lesser(end, next) - clock);
     match layer_step::advance_longest(
         elements,
         top,

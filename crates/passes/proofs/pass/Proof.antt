@@ -77,59 +77,24 @@ load-at-requires c κs =
 loaded-requires : tie.Need-loaded-requires
 loaded-requires c κs = search needs
 
-next-time-requires : tie.Need-next-time-requires
-next-time-requires c κs = let s = c .before .before in site-is (r s) (is s) .header .table-kept .most
+-- ---- under the table's load
 
-lesser-requires : tie.Need-lesser-requires
-lesser-requires c κs = search needs
-
--- ---- its reach, and its load
-
-module _ (c : tie.After-lesser) where
-  abbrev opened : tie.Start
-  opened = c .before .before .before .before
-
-  nearer-is : c .lesser .result ≡ min (end opened) (nextTime (site opened .loadTable) (clock opened) (end opened))
-  unfolding recordSite
-  nearer-is = c .lesser .ensures ∙ ap (min (end opened)) (c .before .next-time .ensures (r opened .layer .«table_load»))
-
-  not-before : clock opened ≤ c .lesser .result
-  not-before =
-      let early = not-late opened in
-      omega (arith, nearer-is, next-reaches (site opened .loadTable) (clock opened) (end opened) early)
-
-sub-lesser : tie.Need-sub-lesser
-sub-lesser c = not-before c
-
-lesser-requires-2 : tie.Need-lesser-requires-2
-lesser-requires-2 c κs = search needs
-
-module _ (c : tie.After-lesser2) where
+module _ (c : tie.After-loaded) where
   abbrev s : tie.Start
-  s = opened (c .before)
-
-  abbrev most : ℕ
-  most = c .lesser2 .result
-
-  reach-is : most ≡ longestReach (site s) (end s) (clock s)
-  unfolding longestReach
-  reach-is = c .lesser2 .ensures ∙ ap (λ (z : ℕ). min (stepLimits .most) (z - clock s)) (nearer-is (c .before))
-
-  reach-most : most ≤ stepLimits .most
-  reach-most = rw (c .lesser2 .ensures) (omega arith)
+  s = c .before .before
 
   abbrev load : Pressure
-  load = c .before .before .before .before .load-at .result
+  load = c .before .load-at .result
 
   load-is : load ≡ pressure (loadAt (site s .loadTable) (clock s))
   unfolding recordSite
-  load-is = c .before .before .before .before .load-at .ensures .0
+  load-is = c .before .load-at .ensures .0
 
   abbrev under : Record
   under = underTable (r s)
 
-  under-is : c .before .before .before .loaded .result ≡ under .layer .progress
-  under-is = c .before .before .before .loaded .ensures ∙ ap (loaded (s .args .progress)) load-is
+  under-is : c .loaded .result ≡ under .layer .progress
+  under-is = c .loaded .ensures ∙ ap (loaded (s .args .progress)) load-is
 
   is-under : isLayer under ≡ true
   is-under = law.under-stands (at s)
@@ -148,11 +113,6 @@ module _ (c : tie.After-lesser2) where
       ap (λ (p : Pressure). held (p .0) (now (s .args .burden))) load-is ∙
       ap (held (under .layer .progress .load .0)) (worked .burden-is)
 
-  -- the longest step within reach
-  longest-is : greatest most (λ t. not (tooLong (recordSite under) (recordState under) t)) ≡ longest (r s) (end s)
-  unfolding longestStep recordSite recordState
-  longest-is = ap (λ (z : ℕ). greatest z (λ t. not (tooLong (recordSite under) (recordState under) t))) reach-is
-
 read-elements-requires : tie.Need-read-elements-requires
 read-elements-requires c κs =
     let g = c .before .before .before .before .before in
@@ -164,7 +124,7 @@ read-elements-requires c κs =
 -- ---- what was read
 
 module _ (c : tie.After-read-elements) where
-  abbrev g : tie.After-lesser2
+  abbrev g : tie.After-loaded
   g = c .before .before .before .before .before .before
 
   abbrev s₁ : tie.Start
@@ -176,9 +136,59 @@ module _ (c : tie.After-read-elements) where
   resistance-is : c .read-elements .last .1 .1 .1 .1 .1 .1 .1 .1 .1 .1 .1 .1 .1 .0 ≡ resistancesIn (under g) (now (s₁ .args .resistance))
   resistance-is = c .read-elements .ensures .1 .0
 
+next-time-requires : tie.Need-next-time-requires
+next-time-requires c κs = let s = s₁ c in site-is (r s) (is s) .header .table-kept .most
+
+lesser-requires : tie.Need-lesser-requires
+lesser-requires c κs = search needs
+
+-- ---- its reach
+
+module _ (c : tie.After-lesser) where
+  abbrev opened : tie.Start
+  opened = s₁ (c .before .before)
+
+  nearer-is : c .lesser .result ≡ min (end opened) (nextTime (site opened .loadTable) (clock opened) (end opened))
+  unfolding recordSite
+  nearer-is = c .lesser .ensures ∙ ap (min (end opened)) (c .before .next-time .ensures (r opened .layer .«table_load»))
+
+  not-before : clock opened ≤ c .lesser .result
+  not-before =
+      let early = not-late opened in
+      omega (arith, nearer-is, next-reaches (site opened .loadTable) (clock opened) (end opened) early)
+
+sub-lesser : tie.Need-sub-lesser
+sub-lesser c = not-before c
+
+lesser-requires-2 : tie.Need-lesser-requires-2
+lesser-requires-2 c κs = search needs
+
+module _ (c : tie.After-lesser2) where
+  abbrev f₁ : tie.After-read-elements
+  f₁ = c .before .before .before
+
+  abbrev s₂ : tie.Start
+  s₂ = s₁ f₁
+
+  abbrev most : ℕ
+  most = c .lesser2 .result
+
+  reach-is : most ≡ longestReach (site s₂) (end s₂) (clock s₂)
+  unfolding longestReach
+  reach-is = c .lesser2 .ensures ∙ ap (λ (z : ℕ). min (stepLimits .most) (z - clock s₂)) (nearer-is (c .before))
+
+  reach-most : most ≤ stepLimits .most
+  reach-most = rw (c .lesser2 .ensures) (omega arith)
+
+  -- the longest step within reach
+  longest-is : greatest most (λ t. not (tooLong (recordSite (under (g f₁))) (recordState (under (g f₁))) t)) ≡ longest (r s₂) (end s₂)
+  unfolding longestStep recordSite recordState
+  longest-is = ap (λ (z : ℕ). greatest z (λ t. not (tooLong (recordSite (under (g f₁))) (recordState (under (g f₁))) t))) reach-is
+
 advance-longest-requires : tie.Need-advance-longest-requires
 advance-longest-requires c κs =
-    let f = c .before .before .before .before in
+    let l = c .before .before .before .before in
+    let f = f₁ l in
     let u = under (g f) in
     let stands = is-under (g f) in
     let facts = site-is (r (s₁ f)) (is (s₁ f)) in
@@ -186,7 +196,7 @@ advance-longest-requires c κs =
     let long = s₁ f .pre .1 .1 .1 in (
       counted (r (s₁ f)) (is (s₁ f)),
       (
-        (facts .top-held, facts .bottom-held, reach-most (g f)),
+        (facts .top-held, facts .bottom-held, reach-most l),
         (
           (ranged .0, ranged .1, limited-now u stands _ _ (excess-is f) (resistance-is f) (worked (g f))),
           (
@@ -200,8 +210,11 @@ advance-longest-requires c κs =
 -- ---- what the longest step gave
 
 module _ (c : tie.After-advance-longest) where
+  abbrev reached : tie.After-lesser2
+  reached = c .before .before .before .before .before
+
   abbrev f : tie.After-read-elements
-  f = c .before .before .before .before .before
+  f = f₁ reached
 
   abbrev start : tie.Start
   start = s₁ f
@@ -214,7 +227,7 @@ module _ (c : tie.After-advance-longest) where
       (water ≡ (passing.passed (r start) (end start)) .layer .water) ×
       (c .advance-longest .last .1 .1 .1 .1 .1 .1 .1 .1 .1 .1 .0 ≡ flowsTurned (under (g f)) (longest (r start) (end start)) (now (start .args .above)))
   same =
-      let law = turn-is (under (g f)) (is-under (g f)) (now (start .args .excess)) (now (start .args .resistance)) (excess-is f) (resistance-is f) (worked (g f)) (most (g f)) (now (start .args .above)) (longest-is (g f)) in
+      let law = turn-is (under (g f)) (is-under (g f)) (now (start .args .excess)) (now (start .args .resistance)) (excess-is f) (resistance-is f) (worked (g f)) (most reached) (now (start .args .above)) (longest-is reached) in
       (c .advance-longest .ensures .0 ∙ law .0, c .advance-longest .ensures .1 .0 ∙ law .1, c .advance-longest .ensures .1 .1 ∙ law .2)
 
 enum-known-stop : tie.Need-enum-known-stop
@@ -255,7 +268,7 @@ module _ (c : tie.After-known-told2) where
   told = sym (c .before .t .given .1) ∙ same a .0
 
   abbrev progress : Progress
-  progress = g (f a) .before .before .before .loaded .result
+  progress = g (f a) .loaded .result
 
   stepping : Reached (r (start a)) (end (start a)) 1 (water a) (later progress t first last) 1
   unfolding recordSite recordState withLoad
@@ -282,11 +295,11 @@ pass-spec =
     (tie.spec
     load-at-requires
     loaded-requires
+    read-elements-requires
     next-time-requires
     lesser-requires
     sub-lesser
     lesser-requires-2
-    read-elements-requires
     advance-longest-requires
     enum-known-stop
     enum-known-t
