@@ -10,7 +10,7 @@ use Rattle.acceptance.specs.declared.causes.Checked.the-variants.{Sound,
 use Rattle.rules.specs.Curve.{compressibilitySound, conductivitySound}
 use Rattle.rules.specs.Job.{Description, fieldsSound, describedCauses, jobSite}
 use Rattle.rules.specs.Load.{tableSound}
-use Rattle.rules.specs.Quantities.{head}
+use Rattle.quantities.specs.Quantities.{head}
 use Rattle.rules.specs.Refusals.{_if_, firstCause}
 use Rattle.rules.specs.declared.answers.Refusal.{Refusal}
 use Rattle.rules.specs.declared.answers.Refusal.the-variants.{FieldOutside, CompressibilityCurve, ConductivityCurve, LoadTable}

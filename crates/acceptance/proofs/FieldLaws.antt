@@ -10,12 +10,12 @@ use Rattle.acceptance.specs.declared.fields.Fields.{Fields}
 use Rattle.acceptance.specs.declared.fields.Fields.the-variants.{Within, Outside}
 use Rattle.numbers.specs.Arrays.{firstPlaces}
 use Rattle.numbers.specs.Lists.{all}
-use Rattle.rules.proofs.Limits.{only-zero}
+use Rattle.quantities.proofs.Limits.{only-zero}
 use Rattle.rules.specs.Job.{Description, fieldsSound, givenWater, jobSite, numberedFace}
-use Rattle.rules.specs.Quantities.{within, withinℤ, levelLimits, clockLimits, budgetLimits, from_to_, head}
+use Rattle.quantities.specs.Quantities.{within, withinℤ, levelLimits, clockLimits, budgetLimits, from_to_, head}
 use Rattle.rules.specs.Record.{heightsSound, sizesSound, closedAtZero}
-use Rattle.rules.specs.declared.quantities.Face.the-variants.{Closed, Drained}
-use Rattle.rules.specs.declared.quantities.Pressure.{Pressure}
+use Rattle.quantities.specs.declared.Face.the-variants.{Closed, Drained}
+use Rattle.quantities.specs.declared.Pressure.{Pressure}
 
 all-zero : (l : List ℕ) → all (λ w. eqb w 0) l ≡ all (within (from 0 to 0)) l
 unfolding all

@@ -32,7 +32,7 @@ use Rattle.rules.specs.Job.{Description, describedCauses, fieldsSound, frameOf,
 use Rattle.rules.specs.Layer.{skeletonOf, burdens}
 use Rattle.rules.specs.Load.{firstPoint}
 use Rattle.rules.specs.Opening.{descriptionWater, layerCauses}
-use Rattle.rules.specs.Quantities.{within, clockLimits, budgetLimits, levelLimits, solidsLimits, stressLimits, waterLimits, elementLimits}
+use Rattle.quantities.specs.Quantities.{within, clockLimits, budgetLimits, levelLimits, solidsLimits, stressLimits, waterLimits, elementLimits}
 use Rattle.rules.specs.Record.{sizesSound}
 use Rattle.rules.specs.Refusals.{firstCause}
 use Rattle.rules.specs.Start.{openingLoad, openingState, startWater}

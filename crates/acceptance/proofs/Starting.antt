@@ -19,7 +19,7 @@ use Rattle.numbers.proofs.Indices as indices
 use Rattle.numbers.specs.Lists.{all}
 use Rattle.numbers.proofs.Searches.{passed}
 use Rattle.rules.specs.Layer.{Skeleton}
-use Rattle.rules.specs.Quantities.{waterLimits}
+use Rattle.quantities.specs.Quantities.{waterLimits}
 use Rattle.rules.specs.Start.{restingFrom, startWater}
 use Rattle.rules.specs.Step.{allOnCurve}
 use Rattle.start.proofs.Heights.{heights-few, heights-most}

@@ -7,7 +7,7 @@ use Rattle.acceptance.specs.declared.causes.Checked.the-variants.{Sound,
 use Rattle.acceptance.specs.declared.fields.Fields.{Fields}
 use Rattle.acceptance.specs.declared.fields.Fields.the-variants.{Within, Outside}
 use Rattle.rules.specs.Job.{Description, fieldsSound, describedCauses}
-use Rattle.rules.specs.Quantities.{head}
+use Rattle.quantities.specs.Quantities.{head}
 use Rattle.rules.specs.Refusals.{firstCause}
 
 -- cause 5: the levels where the fields are sound

@@ -7,9 +7,9 @@ ghost use Rattle.rules.specs.Job.{Description, headerSound};
 use crate::fields;
 use crate::fields::Fields;
 use points::checks;
+use quantities::Head;
 use rules::answers::Refusal;
 use rules::job::Header;
-use rules::quantities::Head;
 
 // The levels of a sound description, or the cause for which it is refused.
 pub enum Checked {

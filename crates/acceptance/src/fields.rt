@@ -4,15 +4,15 @@ ghost use mathlib.Core.Path.{_≡_};
 ghost use Prim.Native.Nat.{ℕ, _≤_};
 ghost use Rattle.acceptance.specs.Causes.{fieldsAnswer};
 ghost use Rattle.acceptance.specs.Lent.{descriptionOf};
-ghost use Rattle.rules.specs.Quantities.{elementLimits};
+ghost use Rattle.quantities.specs.Quantities.{elementLimits};
+use quantities::Budget;
+use quantities::Clock;
+use quantities::Head;
+use quantities::Kind;
+use quantities::TestedClock;
+use quantities::TestedHead;
 use record_parts::sizes;
 use rules::job::Header;
-use rules::quantities::Budget;
-use rules::quantities::Clock;
-use rules::quantities::Head;
-use rules::quantities::Kind;
-use rules::quantities::TestedClock;
-use rules::quantities::TestedHead;
 
 // The levels of a description whose fields keep their limits and are 0 where they must be, or that some do not.
 pub enum Fields {

@@ -10,7 +10,7 @@ ghost use Rattle.numbers.specs.Arrays.{firstPlaces, filled};
 ghost use Rattle.numbers.specs.Lists.{all};
 ghost use Rattle.rules.specs.Curve.{points, compressibilitySound};
 ghost use Rattle.rules.specs.Layer.{skeletonOf};
-ghost use Rattle.rules.specs.Quantities.{stressLimits, solidsLimits, waterLimits, elementLimits, curveLimits};
+ghost use Rattle.quantities.specs.Quantities.{stressLimits, solidsLimits, waterLimits, elementLimits, curveLimits};
 ghost use Rattle.rules.specs.Start.{startWater};
 ghost use Rattle.start.specs.Rest.{allOrNone};
 use rules::record::Skeleton;

@@ -4,11 +4,11 @@ ghost use Rattle.rules.specs.Calls.{called, calledNumbers};
 ghost use Rattle.rules.specs.Outcome.{answerNumbers};
 ghost use Rattle.rules.specs.declared.answers.Call.the-variants.{Load};
 use lent::state;
+use quantities::Pressure;
+use quantities::TestedPressure;
 use rules::answers::Answer;
 use rules::answers::Answered;
 use rules::answers::Refusal;
-use rules::quantities::Pressure;
-use rules::quantities::TestedPressure;
 use rules::record::Record;
 
 // A load, on any record.

@@ -4,17 +4,17 @@ ghost use mathlib.Core.Path.{_≡_};
 ghost use Prim.Native.Nat.{_+_};
 ghost use Rattle.rules.specs.Calls.{called, calledNumbers};
 ghost use Rattle.rules.specs.Outcome.{answerNumbers};
-ghost use Rattle.rules.specs.Quantities.{within, stepLimits, clockLimits};
+ghost use Rattle.quantities.specs.Quantities.{within, stepLimits, clockLimits};
 ghost use Rattle.rules.specs.Record.{isLayer};
 ghost use Rattle.rules.specs.declared.answers.Call.the-variants.{Step};
 use lent::state;
 use lent_step::Stepped;
+use quantities::Clock;
+use quantities::Seconds;
+use quantities::TestedClock;
 use rules::answers::Answer;
 use rules::answers::Answered;
 use rules::answers::Refusal;
-use rules::quantities::Clock;
-use rules::quantities::Seconds;
-use rules::quantities::TestedClock;
 use rules::record::Record;
 
 // A step within its limits, on a layer.

@@ -6,7 +6,7 @@ use mathlib.Core.Bool.{not}
 use mathlib.Core.List.{List, [], _∷_}
 use Rattle.laws.specs.Amid.{Between}
 use Rattle.rules.specs.Layer.{Site, State}
-use Rattle.rules.specs.Quantities.{stressLimits, clockLimits}
+use Rattle.quantities.specs.Quantities.{stressLimits, clockLimits}
 use Rattle.rules.specs.Run.{Event, loadSet, stepTaken, afterEvent}
 use Rattle.rules.specs.Step.{tooLong, leavesCurve}
 

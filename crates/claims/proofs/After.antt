@@ -29,7 +29,7 @@ use Rattle.rules.specs.Result.{settlement}
 use Rattle.rules.specs.Start.{openingState}
 use Rattle.rules.specs.Tally.{Tally, begun, tallied, Course, course, excesses, waterLeft, layerHeight, stepTraces}
 use Rattle.rules.specs.declared.answers.Call.{Call}
-use Rattle.rules.specs.declared.quantities.Face.the-variants.{Closed}
+use Rattle.quantities.specs.declared.Face.the-variants.{Closed}
 use Rattle.rules.specs.declared.record.Record.{Record}
 
 -- the height of a layer is that of its solids and its water

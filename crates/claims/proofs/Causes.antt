@@ -9,7 +9,7 @@ use mathlib.Core.Path.{_≡_, refl, sym, subst}
 use Rattle.laws.specs.Every.{Every}
 use Rattle.rules.specs.Layer.{Site, State}
 use Rattle.rules.specs.Outcome.{Outcome, refused}
-use Rattle.rules.specs.Quantities.{within, stressLimits, clockLimits, stepLimits, budgetLimits}
+use Rattle.quantities.specs.Quantities.{within, stressLimits, clockLimits, stepLimits, budgetLimits}
 use Rattle.rules.specs.Refusals.{Trial, _if_, firstCause}
 use Rattle.rules.specs.Step.{tooLong, leavesCurve}
 use Rattle.rules.specs.declared.answers.Refusal.{Refusal}

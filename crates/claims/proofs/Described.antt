@@ -18,14 +18,14 @@ use Rattle.rules.specs.Curve.{compressibilitySound, conductivitySound}
 use Rattle.rules.specs.Job.{Description, field, described, numberedFace, frameOf, jobSite, givenWater, fieldsSound, headerSound, jobCauses}
 use Rattle.rules.specs.Layer.{topPressure}
 use Rattle.rules.specs.Load.{tableSound}
-use Rattle.rules.specs.Quantities.{within, clockLimits, budgetLimits, flagLimits, elementLimits, curveLimits, tableLimits, gravityLimits, startingWaterLimits}
+use Rattle.quantities.specs.Quantities.{within, clockLimits, budgetLimits, flagLimits, elementLimits, curveLimits, tableLimits, gravityLimits, startingWaterLimits}
 use Rattle.numbers.specs.Sums.{sum}
 use Rattle.rules.specs.Opening.{openedRecord}
 use Rattle.rules.specs.Record.{formSound, faceNumber, sizesSound, faceHolds, recordSite}
 use Rattle.rules.specs.Refusals.{firstCause}
 use Rattle.rules.specs.declared.job.Header.{Header}
-use Rattle.rules.specs.declared.quantities.Pressure.{Pressure}
-use Rattle.rules.proofs.Limits.{inside}
+use Rattle.quantities.specs.declared.Pressure.{Pressure}
+use Rattle.quantities.proofs.Limits.{inside}
 
 -- a job's description meets the tests of a layer
 pub record Described (d : Description) : Type 0 where

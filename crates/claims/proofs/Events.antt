@@ -16,7 +16,7 @@ use Rattle.numbers.proofs.Signed.{signed}
 use Rattle.rules.specs.Layer.{Site, State}
 use Rattle.rules.specs.Load.{tableSound, loadAt, withLoad, loadRefusal}
 use Rattle.rules.specs.Outcome.{refused, ran, outcome}
-use Rattle.rules.specs.Quantities.{Limits, within, stressLimits, clockLimits, stepLimits, budgetLimits}
+use Rattle.quantities.specs.Quantities.{Limits, within, stressLimits, clockLimits, stepLimits, budgetLimits}
 use Rattle.rules.specs.Run.{loadSet, stepTaken, afterEvent, longestReach, longestStep}
 use Rattle.rules.specs.Run.{Turn, stops, goes, turn, RunOutcome, running, runRefusal}
 use Rattle.rules.specs.Step.{stepped, tooLong, leavesCurve, stepRefusal}
@@ -25,7 +25,7 @@ use Rattle.rules.specs.declared.answers.Call.{Call}
 use Rattle.rules.specs.declared.answers.Call.the-variants.{Load, Step, Run}
 use Rattle.rules.specs.declared.answers.Stop.{Stop}
 use Rattle.rules.specs.declared.answers.Stop.the-variants.{AtEnd, BudgetUsed, NoStep, OffCurve}
-use Rattle.rules.proofs.Limits.{within-parts}
+use Rattle.quantities.proofs.Limits.{within-parts}
 
 -- what is not outside limits keeps them
 not-outside : (limits : Limits) (n : ℕ) → T (not (not (within limits n))) → (limits .least ≤ n) × (n ≤ limits .most)

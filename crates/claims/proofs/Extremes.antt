@@ -13,8 +13,8 @@ use Rattle.laws.specs.Faces.{Holds}
 use Rattle.numbers.proofs.Signed.{signed}
 use Rattle.rules.specs.Layer.{Site, State, readElements}
 use Rattle.rules.specs.Tally.{excesses}
-use Rattle.rules.specs.declared.quantities.Face.{Face}
-use Rattle.rules.specs.declared.quantities.Face.the-variants.{Closed, Drained}
+use Rattle.quantities.specs.declared.Face.{Face}
+use Rattle.quantities.specs.declared.Face.the-variants.{Closed, Drained}
 
 -- every image passes just where every entry's image passes
 pub every-image : {A B : Type 0} (P : B → Type 0) (f : A → B) (l : List A) → Every P (map f l) ↔ Every (λ a. P (f a)) l

@@ -23,16 +23,16 @@ use Rattle.numbers.proofs.Searches.{passed, is-true, both, joined}
 use Rattle.rules.specs.Curve.{Point, compressibilitySound, conductivitySound}
 use Rattle.rules.specs.Layer.{Site, State, skeletonOf, effectiveStress, topPressure, bottomPressure}
 use Rattle.rules.specs.Load.{tableSound}
-use Rattle.rules.specs.Quantities.{within, withinℤ, levelLimits, solidsLimits, waterLimits, stressLimits, clockLimits, startingWaterLimits, outflowRate}
-use Rattle.rules.specs.Record.{formSound, faceNumber, closedAtZero, heightsSound, sizesSound, faceHolds, outflowWithin, isLayer}
+use Rattle.quantities.specs.Quantities.{within, withinℤ, levelLimits, solidsLimits, waterLimits, stressLimits, clockLimits, startingWaterLimits, outflowRate, outflowWithin}
+use Rattle.rules.specs.Record.{formSound, faceNumber, closedAtZero, heightsSound, sizesSound, faceHolds, isLayer}
 use Rattle.rules.specs.Record.{recordSite, recordState, withState, withEvents}
 use Rattle.rules.specs.Run.{Event, afterEvents}
 use Rattle.rules.specs.Step.{onCurve, allOnCurve}
-use Rattle.rules.specs.declared.quantities.Face.{Face}
-use Rattle.rules.specs.declared.quantities.Face.the-variants.{Closed, Drained}
-use Rattle.rules.specs.declared.quantities.Pressure.{Pressure}
+use Rattle.quantities.specs.declared.Face.{Face}
+use Rattle.quantities.specs.declared.Face.the-variants.{Closed, Drained}
+use Rattle.quantities.specs.declared.Pressure.{Pressure}
 use Rattle.rules.specs.declared.record.Record.{Record}
-use Rattle.rules.proofs.Limits.{inside, inside-signed, within-parts}
+use Rattle.quantities.proofs.Limits.{inside, inside-signed, within-parts}
 use Rattle.rules.proofs.Sound.{falls-down}
 use Rattle.laws.proofs.SiteFacts.{site-by, bottom-within}
 use Rattle.laws.proofs.Sizes.{signed-between}

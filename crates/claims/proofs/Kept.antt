@@ -22,12 +22,12 @@ use Rattle.numbers.specs.Sums.{sum}
 use Rattle.rules.specs.Curve.{falling, compressibilitySound}
 use Rattle.rules.specs.Layer.{Site, State, Skeleton, skeleton, readElements, bottomPressure}
 use Rattle.rules.specs.Load.{tableSound, withLoad}
-use Rattle.rules.specs.Quantities.{clockLimits, solidsLimits, gravityLimits, elementLimits, outflowRate, mostHeadPressure}
+use Rattle.quantities.specs.Quantities.{clockLimits, solidsLimits, gravityLimits, elementLimits, outflowRate, mostHeadPressure}
 use Rattle.rules.specs.Run.{Event, loadSet, stepTaken, afterEvent, afterEvents}
 use Rattle.numbers.specs.Lists.{paired}
 use Rattle.rules.specs.Step.{siteSteepness, upwardFlows, moved, newHeight, stepped, onCurve, allOnCurve}
-use Rattle.rules.specs.declared.quantities.Face.{Face}
-use Rattle.rules.specs.declared.quantities.Face.the-variants.{Closed, Drained}
+use Rattle.quantities.specs.declared.Face.{Face}
+use Rattle.quantities.specs.declared.Face.the-variants.{Closed, Drained}
 
 -- ---- what faces hold
 

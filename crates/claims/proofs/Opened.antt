@@ -23,7 +23,7 @@ use Rattle.rules.specs.Job.{Description, described, frameOf, jobSite, givenWate
 use Rattle.laws.proofs.Lengths.{burdens-length}
 use Rattle.rules.specs.Layer.{Site, skeleton, burdens}
 use Rattle.rules.specs.Opening.{openedRecord, refusedOpening, descriptionWater, opening}
-use Rattle.rules.specs.Quantities.{startingWaterLimits, waterLimits}
+use Rattle.quantities.specs.Quantities.{startingWaterLimits, waterLimits}
 use Rattle.rules.specs.Record.{recordSite, recordState}
 use Rattle.rules.specs.Refusals.{firstCause}
 use Rattle.rules.specs.Start.{openingLoad, openingState}

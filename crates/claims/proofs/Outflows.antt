@@ -19,13 +19,13 @@ use Rattle.laws.proofs.Spread.{spread}
 use Rattle.numbers.specs.Lists.{firstOr, lastOr}
 use Rattle.numbers.proofs.Signed.{signed, add-parts, sub-parts, up-neg, down-neg}
 use Rattle.rules.specs.Layer.{Site, State, Element, readElements, bottomPressure}
-use Rattle.rules.specs.Quantities.{pressureOf}
+use Rattle.quantities.specs.Quantities.{pressureOf}
 use Rattle.claims.specs.Pressures.{NotNegative, NotLowered}
 use Rattle.rules.specs.Run.{Event, loadSet, stepTaken, afterEvent}
 use Rattle.rules.specs.Step.{outward, upward, flowsAbove, upwardFlows, stepped, siteSteepness}
 use Rattle.rules.specs.Tally.{Tally, recorded, tallied, stepTraces}
-use Rattle.rules.specs.declared.quantities.Face.{Face}
-use Rattle.rules.specs.declared.quantities.Face.the-variants.{Closed, Drained}
+use Rattle.quantities.specs.declared.Face.{Face}
+use Rattle.quantities.specs.declared.Face.the-variants.{Closed, Drained}
 
 -- a face holds 0
 abbrev pub HoldsZero : Face → Type 0

@@ -12,7 +12,7 @@ use Rattle.claims.proofs.Causes.{none-some}
 use Rattle.numbers.specs.Lists.{least}
 use Rattle.numbers.proofs.Searches.{passed, joined}
 use Rattle.rules.specs.Layer.{Skeleton, effectiveStress}
-use Rattle.rules.specs.Quantities.{waterLimits}
+use Rattle.quantities.specs.Quantities.{waterLimits}
 use Rattle.numbers.specs.Lists.{prepended}
 use Rattle.rules.specs.Start.{atMost, restingWater, lastStress, restingUnder, restingFrom, startWater}
 use Rattle.rules.specs.Step.{onCurve, allOnCurve}

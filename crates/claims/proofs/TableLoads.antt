@@ -11,8 +11,8 @@ use Rattle.numbers.proofs.Searches.{both, by-test}
 use Rattle.numbers.proofs.Signed.{signed}
 use Rattle.rules.specs.Curve.{Point}
 use Rattle.rules.specs.Load.{firstPoint, tableSound, loadAt}
-use Rattle.rules.specs.Quantities.{within, stressLimits, clockLimits}
-use Rattle.rules.proofs.Limits.{within-parts}
+use Rattle.quantities.specs.Quantities.{within, stressLimits, clockLimits}
+use Rattle.quantities.proofs.Limits.{within-parts}
 use Rattle.table.proofs.Laws.{segmentLoad, segment-stress}
 
 -- the tests of a sound table's points

@@ -7,8 +7,8 @@ use mathlib.Core.Logic.{_⊎_}
 use mathlib.Core.Path.{_≡_}
 use Rattle.rules.specs.Layer.{Site, State}
 use Rattle.rules.specs.Tally.{Tally, excesses, StepTrace}
-use Rattle.rules.specs.declared.quantities.Face.{Face}
-use Rattle.rules.specs.declared.quantities.Face.the-variants.{Closed, Drained}
+use Rattle.quantities.specs.declared.Face.{Face}
+use Rattle.quantities.specs.declared.Face.the-variants.{Closed, Drained}
 
 -- what a drained face holds; a closed one holds none
 unfoldable pub held : Face → List ℤ

@@ -22,7 +22,7 @@ use Rattle.rules.specs.Job.{described, headerLength, marked, framingCauses, job
 use Rattle.rules.specs.Key.{key}
 use Rattle.rules.specs.Opening.{refusedOpening, opening}
 use Rattle.rules.specs.Program.{digits, refusedLine, inputMost, programOutput}
-use Rattle.rules.specs.Quantities.{elementLimits}
+use Rattle.quantities.specs.Quantities.{elementLimits}
 use Rattle.rules.specs.Refusals.{refusalNumber}
 use Rattle.rules.specs.Result.{Returned, refusedResult, resultSize, resultMost}
 use Rattle.rules.specs.declared.answers.Answer.the-variants.{Done}

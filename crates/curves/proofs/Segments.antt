@@ -13,8 +13,8 @@ use Rattle.numbers.proofs.Filled.{length-tabulate, getD-tabulate}
 use Rattle.numbers.specs.Interpolation.{distance}
 use Rattle.numbers.proofs.Searches.{passed}
 use Rattle.rules.specs.Curve.{point, points, spans, interpolated, curveAt}
-use Rattle.rules.specs.Quantities.{stressLimits, voidLimits}
-use Rattle.rules.specs.declared.quantities.CurveValue.the-variants.{On, Off}
+use Rattle.quantities.specs.Quantities.{stressLimits, voidLimits}
+use Rattle.quantities.specs.declared.CurveValue.the-variants.{On, Off}
 use Rattle.rules.proofs.Points.{at, from-segment, from-point, from-last, from-end}
 use Rattle.curves.specs.Smooth.{Smooth}
 

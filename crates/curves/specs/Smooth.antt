@@ -5,7 +5,7 @@ use mathlib.Core.List.{List}
 use Rattle.laws.specs.Segment.{OneWay}
 use Rattle.numbers.specs.Interpolation.{distance}
 use Rattle.rules.specs.Curve.{points}
-use Rattle.rules.specs.Quantities.{stressLimits, voidLimits}
+use Rattle.quantities.specs.Quantities.{stressLimits, voidLimits}
 
 -- the abscissas go one way, the ordinates do not fall, and no number is out of range (no conductivity passes the greatest stress)
 pub record Smooth (n : ℕ) (xs ys : List ℕ) : Type 0 where

@@ -4,8 +4,8 @@ ghost use Prim.Native.Nat.{ℕ, _+_, _≤_, _<_};
 ghost use Rattle.curves.specs.Smooth.{Smooth};
 ghost use Rattle.numbers.specs.Interpolation.{distance};
 ghost use Rattle.rules.specs.Curve.{point, points, spans, interpolated, curveAt, isOn, valueOf};
-ghost use Rattle.rules.specs.Quantities.{stressLimits, voidLimits, curveLimits};
-use rules::quantities::CurveValue;
+ghost use Rattle.quantities.specs.Quantities.{stressLimits, voidLimits, curveLimits};
+use quantities::CurveValue;
 
 // What a reading found, and the segment where it looked last: a hint for the next reading.
 pub struct Found {

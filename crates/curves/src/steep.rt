@@ -4,7 +4,7 @@ ghost use mathlib.Core.Path.{_≡_};
 ghost use Prim.Native.Nat.{_+_, _-_, _≤_, _<_};
 ghost use Rattle.numbers.specs.Rounding.{ceil};
 ghost use Rattle.rules.specs.Curve.{points, compressibilitySound, curveSteepness};
-ghost use Rattle.rules.specs.Quantities.{stressLimits, voidLimits, curveLimits};
+ghost use Rattle.quantities.specs.Quantities.{stressLimits, voidLimits, curveLimits};
 
 // The steepness of one segment.
 pub fn segment_steepness(void0: u64, stress0: u64, void1: u64, stress1: u64) -> u64

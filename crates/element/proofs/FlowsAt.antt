@@ -16,11 +16,11 @@ use Rattle.numbers.specs.Interval.{Within}
 use Rattle.numbers.proofs.Interval.{within-mul, within-quot, within-sub, within-le, within-pos}
 use Rattle.numbers.specs.Rounding.{cut}
 use Rattle.numbers.proofs.Searches.{by-test}
-use Rattle.rules.specs.Quantities.{stepLimits}
+use Rattle.quantities.specs.Quantities.{stepLimits}
 use Rattle.rules.specs.Layer.{Element}
 use Rattle.rules.specs.Step.{innerResistance, outerResistance, upward, outward, flowsAbove}
-use Rattle.rules.specs.declared.quantities.Face.{Face}
-use Rattle.rules.specs.declared.quantities.Face.the-variants.{Closed, Drained}
+use Rattle.quantities.specs.declared.Face.{Face}
+use Rattle.quantities.specs.declared.Face.the-variants.{Closed, Drained}
 
 -- an outer flow does not look at the element's sensitivity
 pub outward-same : (face : Face) (t : ℕ) (e : Element) (c : ℕ) → outward face t (elementOf e.excess e.resistance c) ≡ outward face t e

@@ -7,7 +7,7 @@ use Rattle.numbers.specs.Arrays.{tabulate}
 use Rattle.numbers.specs.Interval.{Within}
 use Rattle.rules.specs.Layer.{Element}
 use Rattle.rules.specs.Step.{flowsAbove}
-use Rattle.rules.specs.declared.quantities.Face.{Face}
+use Rattle.quantities.specs.declared.Face.{Face}
 use Rattle.laws.specs.Most.{mostExcess, mostResistance}
 
 abbrev pub elementOf : (excess : ℤ) (resistance sensitivity : ℕ) → Element

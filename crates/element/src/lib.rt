@@ -11,12 +11,12 @@ ghost use Rattle.numbers.specs.Rounding.{cut};
 ghost use Rattle.rules.specs.Curve.{points, compressibilitySound};
 ghost use Rattle.rules.specs.Layer.{skeletonOf, voidRatio, effectiveStress, buoyantWeight, sensitivity, excessUnder, resistanceWith};
 ghost use Rattle.rules.specs.Step.{outward};
-ghost use Rattle.rules.specs.Quantities.{stressLimits, conductivityLimits, solidsLimits, waterLimits, stepLimits, gravityLimits, curveLimits, pressure};
+ghost use Rattle.quantities.specs.Quantities.{stressLimits, conductivityLimits, solidsLimits, waterLimits, stepLimits, gravityLimits, curveLimits, pressure};
 use curves::reading;
 use curves::reading::Found;
-use rules::quantities::Face;
-use rules::quantities::Pressure;
-use rules::quantities::Void;
+use quantities::Face;
+use quantities::Pressure;
+use quantities::Void;
 use rules::record::Skeleton;
 
 // A metre in nanometres.

@@ -4,7 +4,7 @@ use mathlib.Core.Bool.{true}
 use mathlib.Core.Path.{_≡_}
 use Rattle.laws.proofs.SoundHeader.{kept-header}
 use Rattle.rules.specs.Job.{headerSound, jobLength}
-use Rattle.rules.specs.Quantities.{elementLimits, curveLimits, tableLimits}
+use Rattle.quantities.specs.Quantities.{elementLimits, curveLimits, tableLimits}
 use Rattle.rules.specs.declared.job.Header.{Header}
 
 -- they keep their arrays' sizes, and the length is theirs

@@ -22,14 +22,14 @@ use Rattle.numbers.specs.Arrays.{zeros, overlaid}
 use Rattle.numbers.proofs.Filled.{first-length, length-zeros, length-filled, length-overlaid, overlaid-take}
 use Rattle.numbers.proofs.Searches.{passed, both}
 use Rattle.result.proofs.ResultLaws.{result-length}
-use Rattle.rules.proofs.Limits.{within-parts}
+use Rattle.quantities.proofs.Limits.{within-parts}
 use Rattle.rules.specs.Calls.{endedRun}
 use Rattle.rules.specs.Job.{firsts, seconds, described, jobSite, givenWater, fieldsSound, framingCauses, describedCauses, jobCauses}
 use Rattle.rules.specs.Key.{runToResult, key}
 use Rattle.rules.specs.Layer.{Site, State}
 use Rattle.rules.specs.Opening.{openedRecord, refusedOpening, descriptionWater, opening}
 use Rattle.rules.specs.Outcome.{refusalOf}
-use Rattle.rules.specs.Quantities.{within, clockLimits, budgetLimits, elementLimits}
+use Rattle.quantities.specs.Quantities.{within, clockLimits, budgetLimits, elementLimits}
 use Rattle.rules.specs.Record.{recordSite, recordState, sizesSound, isLayer}
 use Rattle.rules.specs.Refusals.{firstCause, refusalNumber}
 use Rattle.rules.specs.Result.{Returned, refusedResult, resultBytes, resultSize}

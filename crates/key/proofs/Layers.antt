@@ -8,7 +8,7 @@ use Rattle.claims.proofs.Stands.{Stands, site-sound, stands-layer, stands-after
 use Rattle.lent.proofs.Standing.{state-is}
 use Rattle.passes.proofs.Reached.{fixed, kept}
 use Rattle.rules.specs.Calls.{endedRun}
-use Rattle.rules.specs.Quantities.{clockLimits}
+use Rattle.quantities.specs.Quantities.{clockLimits}
 use Rattle.rules.specs.Record.{recordSite, recordState, withState, withEvents, isLayer}
 use Rattle.rules.specs.Run.{Event, running}
 use Rattle.rules.specs.declared.record.Record.{Record}

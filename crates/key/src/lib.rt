@@ -7,7 +7,7 @@ ghost use Rattle.lent.specs.Burdens.{burdensIn};
 ghost use Rattle.key.specs.Water.{waterRun};
 ghost use Rattle.rules.specs.Job.{countsOf};
 ghost use Rattle.rules.specs.Key.{key, runToResult};
-ghost use Rattle.rules.specs.Quantities.{clockLimits, budgetLimits};
+ghost use Rattle.quantities.specs.Quantities.{clockLimits, budgetLimits};
 ghost use Rattle.rules.specs.Record.{soilOf, layerOf, recordOf, isLayer};
 ghost use Rattle.rules.specs.declared.record.Record.{Record};
 use opening::Opened;

@@ -14,7 +14,7 @@ use Rattle.numbers.specs.Sums.{sum}
 use Rattle.numbers.proofs.Sums.{total}
 use Rattle.rules.specs.Layer.{Site, State, Skeleton, skeleton, Element, readElements}
 use Rattle.rules.specs.Step.{outward, upwardFlows, flowsAbove, moved, newHeight, stepped, onCurve, allOnCurve, leavesCurve}
-use Rattle.rules.specs.declared.quantities.Face.{Face}
+use Rattle.quantities.specs.declared.Face.{Face}
 use Rattle.laws.proofs.OnCurve.{on-curve-parts, stays-on}
 use Rattle.laws.proofs.Lengths.{elements-length, above-length, flows-moved-length}
 

@@ -15,7 +15,7 @@ use Rattle.numbers.proofs.Division.{le-floor, ceil-le}
 use Rattle.numbers.proofs.Searches.{both, joined, same-test}
 use Rattle.rules.specs.Curve.{Point, isOn, falling}
 use Rattle.rules.specs.Layer.{skeletonOf, voidRatio, effectiveStress}
-use Rattle.rules.specs.Quantities.{voidLimits, solidsLimits, waterLimits, voidUnit}
+use Rattle.quantities.specs.Quantities.{voidLimits, solidsLimits, waterLimits, voidUnit}
 use Rattle.rules.specs.Step.{onCurve}
 use Rattle.rules.proofs.Falling.{firstAbscissa}
 use Rattle.laws.proofs.Rising.{lastAbscissa, falling-on}

@@ -13,8 +13,8 @@ use Rattle.numbers.specs.Rounding.{floor}
 use Rattle.numbers.proofs.Division.{le-floor}
 use Rattle.rules.specs.Layer.{Site, State, Element, sensitivity, burdens, element, elementsFrom, readElements}
 use Rattle.rules.specs.Step.{Contact, outerContacts, contactsAbove, contacts, siteSteepness, tooLongAt, tooLong}
-use Rattle.rules.specs.declared.quantities.Face.{Face}
-use Rattle.rules.specs.declared.quantities.Face.the-variants.{Closed, Drained}
+use Rattle.quantities.specs.declared.Face.{Face}
+use Rattle.quantities.specs.declared.Face.the-variants.{Closed, Drained}
 use Rattle.laws.specs.Every.{Every}
 use Rattle.laws.proofs.Every.{every-of, every-none, every-map, every-append}
 use Rattle.laws.proofs.VoidRatio.{sensitivity-pos}

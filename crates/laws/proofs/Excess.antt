@@ -15,7 +15,7 @@ use Rattle.numbers.specs.Sums.{sum}
 use Rattle.rules.specs.Curve.{Point, curveAt, isOn, valueOf, compressibilitySound, conductivitySound}
 use Rattle.rules.specs.Layer.{Site, State, skeleton, skeletonOf, height, voidRatio, effectiveStress, hydraulicConductivity, buoyantWeight, burden, burdens}
 use Rattle.rules.specs.Layer.{excessPressure, resistance, Element, element, elementsFrom, readElements}
-use Rattle.rules.specs.Quantities.{stressLimits, solidsLimits, gravityLimits, elementLimits}
+use Rattle.quantities.specs.Quantities.{stressLimits, solidsLimits, gravityLimits, elementLimits}
 use Rattle.rules.specs.Step.{onCurve, allOnCurve}
 use Rattle.laws.specs.Every.{Every}
 use Rattle.laws.specs.Amid.{Between}

@@ -11,7 +11,7 @@ use Rattle.numbers.specs.Lists.{paired, lastOr}
 use Rattle.rules.specs.Curve.{Point, point, points}
 use Rattle.rules.specs.Layer.{Site, State, Element, burden, burdens, element, elementsFrom, readElements}
 use Rattle.rules.specs.Step.{upward, outward, flowsAbove, moved}
-use Rattle.rules.specs.declared.quantities.Face.{Face}
+use Rattle.quantities.specs.declared.Face.{Face}
 use Rattle.rules.proofs.Points.{at}
 
 -- ---- lists

@@ -8,7 +8,7 @@ use mathlib.Core.Path.{_≡_, refl, ap, _∙_}
 use Rattle.numbers.specs.Lists.{paired}
 use Rattle.rules.specs.Layer.{Site, State, Element, burdens, elementsFrom, readElements}
 use Rattle.rules.specs.Step.{outward, flowsAbove, upwardFlows, moved, newHeight, stepped}
-use Rattle.rules.specs.declared.quantities.Face.{Face}
+use Rattle.quantities.specs.declared.Face.{Face}
 
 -- a burden for each element
 pub burdens-length : (g : ℕ) (Ss : List ℕ) → length (burdens g Ss) ≡ length Ss

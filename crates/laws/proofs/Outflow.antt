@@ -11,10 +11,10 @@ use Rattle.numbers.specs.Interval.{Within}
 use Rattle.numbers.proofs.Interval.{within-le, within-pos, within-neg, within-sub}
 use Rattle.numbers.specs.Lists.{firstOr, lastOr}
 use Rattle.rules.specs.Layer.{Site, State, Element, readElements}
-use Rattle.rules.specs.Quantities.{outflowRate}
+use Rattle.quantities.specs.Quantities.{outflowRate}
 use Rattle.rules.specs.Step.{upward, outward, flowsAbove, upwardFlows, siteSteepness, outerContacts, contactsAbove, contacts, tooLong}
-use Rattle.rules.specs.declared.quantities.Face.{Face}
-use Rattle.rules.specs.declared.quantities.Face.the-variants.{Closed, Drained}
+use Rattle.quantities.specs.declared.Face.{Face}
+use Rattle.quantities.specs.declared.Face.the-variants.{Closed, Drained}
 use Rattle.laws.specs.Every.{Every}
 use Rattle.laws.proofs.Every.{every-append}
 use Rattle.laws.proofs.Flow.{flow-size}

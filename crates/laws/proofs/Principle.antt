@@ -6,7 +6,7 @@ use mathlib.Core.Path.{_≡_, ap}
 use Rattle.numbers.specs.Rounding.{cut}
 use Rattle.numbers.proofs.Signed.{signed, add-parts, sub-parts, up-neg, down-neg, mul-up, mul-down}
 use Rattle.rules.specs.Curve.{isOn, valueOf}
-use Rattle.rules.specs.declared.quantities.CurveValue.{CurveValue}
+use Rattle.quantities.specs.declared.CurveValue.{CurveValue}
 use Rattle.laws.proofs.Amid.{Amid, upward, downward, shifted, middle, Convex}
 use Rattle.laws.proofs.Reading.{BoundedFall}
 use Rattle.laws.proofs.Flow.{flow-amid, flow-reversed}

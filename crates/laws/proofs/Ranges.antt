@@ -6,9 +6,9 @@ use mathlib.Core.Bool.{Bool, _&&_}
 use mathlib.Core.List.{List, [], _∷_}
 use Rattle.numbers.specs.Lists.{all, lastOr}
 use Rattle.numbers.proofs.Searches.{both}
-use Rattle.rules.specs.Quantities.{Limits, within, voidLimits, stressLimits, conductivityLimits}
+use Rattle.quantities.specs.Quantities.{Limits, within, voidLimits, stressLimits, conductivityLimits}
 use Rattle.rules.specs.Curve.{Point, curveAt, isOn, valueOf, falling, compressibilitySound, rising, covers, conductivitySound}
-use Rattle.rules.proofs.Limits.{within-parts}
+use Rattle.quantities.proofs.Limits.{within-parts}
 use Rattle.laws.specs.Segment.{OneWay}
 use Rattle.laws.proofs.Segment.{on-inside, spans-bounds}
 use Rattle.laws.proofs.Rising.{no-gap, rising-way, falling-way}

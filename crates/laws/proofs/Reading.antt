@@ -6,7 +6,7 @@ use lib.Dec.{T}
 use mathlib.Core.List.{List}
 use Rattle.rules.specs.Curve.{Point, curveAt, isOn, valueOf, falling, curveSteepness}
 use Rattle.rules.specs.Layer.{skeletonOf, voidRatio, sensitivity, effectiveStress}
-use Rattle.rules.specs.declared.quantities.CurveValue.{CurveValue}
+use Rattle.quantities.specs.declared.CurveValue.{CurveValue}
 use Rattle.rules.proofs.Falling.{on-from-first, never-rises}
 use Rattle.rules.proofs.Resting.{void-ratio-mono}
 use Rattle.laws.proofs.Slope.{curve-slope}

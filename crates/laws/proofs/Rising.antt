@@ -11,8 +11,8 @@ use mathlib.Core.Path.{_≡_, refl}
 use Rattle.numbers.specs.Lists.{lastOr}
 use Rattle.numbers.proofs.Searches.{both}
 use Rattle.rules.specs.Curve.{Point, curveAt, isOn, valueOf, rising, falling}
-use Rattle.rules.specs.declared.quantities.CurveValue.{CurveValue}
-use Rattle.rules.specs.declared.quantities.CurveValue.the-variants.{On, Off}
+use Rattle.quantities.specs.declared.CurveValue.{CurveValue}
+use Rattle.quantities.specs.declared.CurveValue.the-variants.{On, Off}
 use Rattle.rules.proofs.Falling.{firstAbscissa, firstOrdinate}
 use Rattle.laws.specs.Segment.{OneWay}
 use Rattle.laws.proofs.Segment.{on-inside, between-on, one-way, spans-bounds, bounds-spans}

@@ -14,7 +14,7 @@ use Rattle.numbers.specs.Lists.{neighbours, lastOr}
 use Rattle.numbers.proofs.Searches.{both, joined}
 use Rattle.numbers.proofs.Shares.{interpolates}
 use Rattle.rules.specs.Curve.{Point, spans, interpolated, curveAt, isOn, valueOf}
-use Rattle.rules.specs.declared.quantities.CurveValue.the-variants.{On, Off}
+use Rattle.quantities.specs.declared.CurveValue.the-variants.{On, Off}
 use Rattle.rules.proofs.Falling.{on-segment}
 use Rattle.laws.specs.Segment.{Onward, OneWay}
 

@@ -14,7 +14,7 @@ use Rattle.numbers.proofs.Searches.{by-test}
 use Rattle.rules.specs.Layer.{Site, State, Element, readElements}
 use Rattle.rules.specs.Step.{Contact, innerResistance, contactsAbove, contacts, siteSteepness, tooLongAt, tooLong}
 use Rattle.rules.specs.Run.{longestReach, longestStep}
-use Rattle.rules.specs.declared.quantities.Face.{Face}
+use Rattle.quantities.specs.declared.Face.{Face}
 use Rattle.laws.specs.Every.{Every}
 use Rattle.laws.proofs.Contacts.{ShortFor, Limiting, short-floor, short-enough, shorter, nothing-short, layer-limiting}
 use Rattle.laws.proofs.Longest.{greatest-is}

@@ -15,11 +15,11 @@ use Rattle.numbers.proofs.Signed.{one-sided, sub-parts}
 use Rattle.rules.specs.Curve.{points, compressibilitySound, conductivitySound}
 use Rattle.rules.specs.Layer.{topPressure, bottomPressure}
 use Rattle.rules.specs.Load.{tableSound}
-use Rattle.rules.specs.Quantities.{levelLimits, pressureOf, mostHeadPressure}
+use Rattle.quantities.specs.Quantities.{levelLimits, pressureOf, mostHeadPressure}
 use Rattle.rules.specs.Record.{formSound, faceNumber, sizesSound, faceHolds, recordSite, recordState, siteSound}
-use Rattle.rules.specs.declared.quantities.Face.{Face}
-use Rattle.rules.specs.declared.quantities.Face.the-variants.{Closed, Drained}
-use Rattle.rules.specs.declared.quantities.Pressure.{Pressure}
+use Rattle.quantities.specs.declared.Face.{Face}
+use Rattle.quantities.specs.declared.Face.the-variants.{Closed, Drained}
+use Rattle.quantities.specs.declared.Pressure.{Pressure}
 use Rattle.rules.specs.declared.record.Record.{Record}
 use Rattle.laws.proofs.Sizes.{SoundSizes, sound-sizes}
 

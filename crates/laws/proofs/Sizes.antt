@@ -12,9 +12,9 @@ use Rattle.numbers.proofs.Indices.{all-tabulate, every-at}
 use Rattle.numbers.specs.Lists.{all}
 use Rattle.numbers.proofs.Searches.{passed, both}
 use Rattle.numbers.proofs.Signed.{signed}
-use Rattle.rules.proofs.Limits.{within-parts}
+use Rattle.quantities.proofs.Limits.{within-parts}
 use Rattle.rules.specs.Layer.{Site}
-use Rattle.rules.specs.Quantities.{Limits, within, withinℤ, levelLimits, solidsLimits, waterLimits}
+use Rattle.quantities.specs.Quantities.{Limits, within, withinℤ, levelLimits, solidsLimits, waterLimits}
 use Rattle.rules.specs.Record.{closedAtZero, heightsSound, sizesSound}
 
 -- a signed number that keeps limits from 0 up lies between them

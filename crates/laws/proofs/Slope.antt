@@ -11,7 +11,7 @@ use Rattle.numbers.specs.Interpolation.{distance}
 use Rattle.numbers.proofs.Division.{ceil-pos}
 use Rattle.numbers.proofs.Shares.{interpolates}
 use Rattle.rules.specs.Curve.{Point, spans, interpolated, curveAt, isOn, valueOf, falling, curveSteepness}
-use Rattle.rules.specs.declared.quantities.CurveValue.the-variants.{On}
+use Rattle.quantities.specs.declared.CurveValue.the-variants.{On}
 use Rattle.rules.proofs.Falling.{Falls, on-segment, falling-parts, spans-within, within-spans, on-from-first}
 use Rattle.laws.proofs.Segment.{at-first, interpolated-last}
 

@@ -4,7 +4,7 @@ use lib.Dec.{T, leb, leb→le}
 use mathlib.Core.Bool.{true, _&&_}
 use mathlib.Core.Path.{_≡_}
 use Rattle.numbers.proofs.Searches.{passed, both}
-use Rattle.rules.specs.Quantities.{Limits, within, flagLimits, elementLimits, curveLimits, tableLimits, gravityLimits}
+use Rattle.quantities.specs.Quantities.{Limits, within, flagLimits, elementLimits, curveLimits, tableLimits, gravityLimits}
 use Rattle.rules.specs.Job.{headerSound}
 use Rattle.rules.specs.Record.{formSound}
 use Rattle.rules.specs.declared.job.Header.{Header}

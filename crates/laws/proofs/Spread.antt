@@ -13,8 +13,8 @@ use Rattle.rules.specs.Layer.{Site, State, skeleton, Element, element, elements
 use Rattle.numbers.specs.Lists.{paired}
 use Rattle.rules.specs.Step.{innerResistance, upward, outward, flowsAbove, upwardFlows, moved, newHeight, stepped, siteSteepness}
 use Rattle.rules.specs.Step.{Contact, outerContacts, contactsAbove, contacts, tooLong, onCurve, allOnCurve, leavesCurve}
-use Rattle.rules.specs.declared.quantities.Face.{Face}
-use Rattle.rules.specs.declared.quantities.Face.the-variants.{Closed, Drained}
+use Rattle.quantities.specs.declared.Face.{Face}
+use Rattle.quantities.specs.declared.Face.the-variants.{Closed, Drained}
 use Rattle.laws.specs.Every.{Every}
 use Rattle.laws.proofs.Every.{every-append}
 use Rattle.laws.proofs.Reading.{BoundedFall, stress-fall}

@@ -9,7 +9,7 @@ use Rattle.numbers.proofs.Division.{ceil-pos, ceil-le}
 use Rattle.numbers.specs.Lists.{all, neighbours}
 use Rattle.numbers.proofs.Searches.{both}
 use Rattle.rules.specs.Curve.{Point, falling, compressibilitySound, curveSteepness}
-use Rattle.rules.specs.Quantities.{within, voidLimits, stressLimits}
+use Rattle.quantities.specs.Quantities.{within, voidLimits, stressLimits}
 
 -- one segment of a falling curve
 segment-falls : (a b : Point) (rest : List Point) → T (falling (a ∷ b ∷ rest)) →

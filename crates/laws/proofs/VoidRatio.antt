@@ -10,7 +10,7 @@ use Rattle.numbers.proofs.Shares.{interpolates}
 use Rattle.numbers.proofs.Division.{floor-remainder, ceil-pos}
 use Rattle.rules.specs.Curve.{Point, curveAt, isOn, compressibilitySound}
 use Rattle.rules.specs.Layer.{voidRatio, sensitivity}
-use Rattle.rules.specs.Quantities.{voidLimits, solidsLimits, waterLimits, voidUnit}
+use Rattle.quantities.specs.Quantities.{voidLimits, solidsLimits, waterLimits, voidUnit}
 use Rattle.laws.proofs.Ranges.{compressibility-ranged}
 
 module _ (S : ℕ) (solid : 0 < S) where

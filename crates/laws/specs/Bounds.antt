@@ -1,7 +1,7 @@
 -- The least and the most water with which an element is on a falling curve.
 use Prim.Native.Nat.{ℕ, _+_, _-_, _*_}
 use Rattle.numbers.specs.Rounding.{floor, ceil}
-use Rattle.rules.specs.Quantities.{voidUnit}
+use Rattle.quantities.specs.Quantities.{voidUnit}
 
 -- the least water with which the void ratio of an element reaches v
 unfoldable pub lowestWater : (S v : ℕ) → ℕ

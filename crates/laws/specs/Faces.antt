@@ -1,8 +1,8 @@
 -- What a face holds.
 use Rattle.numbers.specs.Interval.{Within}
-use Rattle.rules.specs.Quantities.{mostHeadPressure}
-use Rattle.rules.specs.declared.quantities.Face.the-variants.{Closed, Drained}
-use Rattle.rules.specs.declared.quantities.Face.{Face}
+use Rattle.quantities.specs.Quantities.{mostHeadPressure}
+use Rattle.quantities.specs.declared.Face.the-variants.{Closed, Drained}
+use Rattle.quantities.specs.declared.Face.{Face}
 use lib.IntN.{ℤ}
 
 -- a face holds a pressure of the set, or none

@@ -1,7 +1,7 @@
 -- The most that can be read of a layer whose numbers keep their limits. Where a number is written out, the comment has
 -- what it is rounded up from.
 use Prim.Native.Nat.{ℕ, _+_, _*_, _-_, _/_}
-use Rattle.rules.specs.Quantities.{stressLimits, solidsLimits, stepLimits, gravityLimits, elementLimits, voidUnit}
+use Rattle.quantities.specs.Quantities.{stressLimits, solidsLimits, stepLimits, gravityLimits, elementLimits, voidUnit}
 
 -- the buoyant weight of the most solids with the greatest gravity
 abbrev pub mostWeight : ℕ

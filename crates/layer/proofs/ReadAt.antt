@@ -10,7 +10,7 @@ use Rattle.layer.specs.Soil.{SoilSound, OnSoil}
 use Rattle.numbers.proofs.Searches.{passed}
 use Rattle.rules.specs.Curve.{points, curveAt, isOn, valueOf}
 use Rattle.rules.specs.Layer.{skeletonOf, voidRatio, effectiveStress, hydraulicConductivity}
-use Rattle.rules.specs.Quantities.{stressLimits, conductivityLimits, waterLimits}
+use Rattle.quantities.specs.Quantities.{stressLimits, conductivityLimits, waterLimits}
 
 module _ (m : ℕ) (void stress : List ℕ) (n : ℕ) (conductivityVoid conductivity : List ℕ) (soil : SoilSound m void stress n conductivityVoid conductivity)
     (load : ℤ) (B S W : ℕ) (on : OnSoil m void stress load B S W) where

@@ -21,8 +21,8 @@ use Rattle.rules.proofs.Falling.{firstAbscissa}
 use Rattle.rules.specs.Layer as layer
 use Rattle.rules.specs.Layer.{Site, State, Skeleton, skeleton, skeletonOf, Element, burdens, readElements, excessPressure}
 use Rattle.rules.specs.Step.{Contact, contact, innerResistance, outerResistance, upward, outward, flowsAbove, upwardFlows, moved, outerContacts, contactsAbove, contacts, onCurve, allOnCurve}
-use Rattle.rules.specs.declared.quantities.Face.{Face}
-use Rattle.rules.specs.declared.quantities.Face.the-variants.{Closed, Drained}
+use Rattle.quantities.specs.declared.Face.{Face}
+use Rattle.quantities.specs.declared.Face.the-variants.{Closed, Drained}
 use Rattle.element.proofs.FlowsAt.{outward-same}
 use Rattle.layer.proofs.WeightsAt.{burden-at}
 

@@ -6,7 +6,7 @@ use mathlib.Core.List.{List}
 use mathlib.Core.Path.{_≡_}
 use Rattle.laws.specs.Amid.{Between}
 use Rattle.laws.specs.Most.{mostBurden}
-use Rattle.rules.specs.Quantities.{stressLimits, solidsLimits, curveLimits}
+use Rattle.quantities.specs.Quantities.{stressLimits, solidsLimits, curveLimits}
 use Rattle.rules.specs.Curve.{points, isOn, compressibilitySound, conductivitySound}
 use Rattle.rules.specs.Layer.{skeletonOf, effectiveStress}
 

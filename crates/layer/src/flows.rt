@@ -6,9 +6,9 @@ ghost use Prim.Native.Nat.{_+_, _≤_, _<_};
 ghost use Rattle.element.specs.Elements.{Readable, flowAbove, elementOf};
 ghost use Rattle.laws.specs.Faces.{HeldWithin};
 ghost use Rattle.numbers.specs.Arrays.{filled};
-ghost use Rattle.rules.specs.Quantities.{stepLimits, elementLimits};
+ghost use Rattle.quantities.specs.Quantities.{stepLimits, elementLimits};
 ghost use Rattle.rules.specs.Step.{outward};
-use rules::quantities::Face;
+use quantities::Face;
 
 // The flows of t seconds up through the upper face of each element, in the first places.
 pub fn flows_above<'a>(

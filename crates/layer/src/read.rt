@@ -8,10 +8,10 @@ ghost use Rattle.layer.specs.Soil.{SoilSound, OnSoil};
 ghost use Rattle.numbers.specs.Arrays.{filled};
 ghost use Rattle.rules.specs.Curve.{points};
 ghost use Rattle.rules.specs.Layer.{skeletonOf, excessPressure, resistance};
-ghost use Rattle.rules.specs.Quantities.{elementLimits, pressure};
+ghost use Rattle.quantities.specs.Quantities.{elementLimits, pressure};
 ghost use Rattle.rules.specs.Record.{soilOf};
 use curves::reading;
-use rules::quantities::Pressure;
+use quantities::Pressure;
 use rules::record::CurveCounts;
 use rules::record::Skeleton;
 

@@ -5,7 +5,7 @@ ghost use Prim.Native.Nat.{ℕ, _+_, _≤_, _<_};
 ghost use Rattle.laws.specs.Most.{mostTotalWeight};
 ghost use Rattle.layer.specs.Weights.{weightFrom, burdenAt};
 ghost use Rattle.numbers.specs.Arrays.{filled};
-ghost use Rattle.rules.specs.Quantities.{solidsLimits, gravityLimits, elementLimits};
+ghost use Rattle.quantities.specs.Quantities.{solidsLimits, gravityLimits, elementLimits};
 
 // The weight of all elements.
 pub fn total_weight(elements: usize, gravity: u64, solids: &[u64; 128]) -> u64

@@ -30,10 +30,10 @@ use Rattle.numbers.proofs.Signed.{signed}
 use Rattle.rules.proofs.Falling.{firstAbscissa}
 use Rattle.rules.specs.Curve.{Point, falling}
 use Rattle.rules.specs.Layer.{skeletonOf}
-use Rattle.rules.specs.Quantities.{stepLimits, waterLimits}
+use Rattle.quantities.specs.Quantities.{stepLimits, waterLimits}
 use Rattle.rules.specs.Step.{outward, moved, newHeight, allOnCurve}
 use Rattle.rules.specs.declared.answers.Stop.the-variants.{NoStep, OffCurve}
-use Rattle.rules.specs.declared.quantities.Face.{Face}
+use Rattle.quantities.specs.declared.Face.{Face}
 use Rattle.water.specs.Water.{newWater, heightAfter, between, staysAt, Movable}
 
 -- ---- the same for equal numbers

@@ -9,7 +9,7 @@ use Rattle.numbers.specs.Arrays.{firstPlaces, overlaid, filled, everyIndex}
 use Rattle.numbers.specs.Lists.{paired, firstOr, lastOr}
 use Rattle.rules.specs.Step.{upwardFlows, moved, newHeight}
 use Rattle.rules.specs.declared.answers.Stop.the-variants.{NoStep, OffCurve}
-use Rattle.rules.specs.declared.quantities.Face.{Face}
+use Rattle.quantities.specs.declared.Face.{Face}
 use Rattle.water.specs.Water.{between}
 use Rattle.layer_step.specs.declared.Longest.{Longest}
 use Rattle.layer_step.specs.declared.Longest.the-variants.{NoneTaken, Taken}

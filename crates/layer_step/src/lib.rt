@@ -12,12 +12,12 @@ ghost use Rattle.layer_step.specs.Moving.{flowsIn, movedIn, waterIn, lon
 ghost use Rattle.numbers.specs.Arrays.{filled};
 ghost use Rattle.rules.specs.Curve.{points, compressibilitySound, curveSteepness};
 ghost use Rattle.rules.specs.Layer as layer;
-ghost use Rattle.rules.specs.Quantities.{stepLimits, stressLimits, waterLimits, solidsLimits, elementLimits, curveLimits};
+ghost use Rattle.quantities.specs.Quantities.{stepLimits, stressLimits, waterLimits, solidsLimits, elementLimits, curveLimits};
 ghost use Rattle.step_length.specs.Reach.{Limited, longestWithin};
 use curves::steep;
 use layer::flows;
+use quantities::Face;
 use rules::answers::Stop;
-use rules::quantities::Face;
 use rules::record::Skeleton;
 
 // What a step gives: the flows up through the bottom and up through the top, or that it leaves the curve.

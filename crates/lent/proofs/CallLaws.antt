@@ -12,7 +12,7 @@ use Rattle.rules.specs.Calls.{called, calledNumbers}
 use Rattle.rules.specs.Layer.{Site, State}
 use Rattle.rules.specs.Load.{loadRefusal}
 use Rattle.rules.specs.Outcome.{Outcome, answerNumbers, refused, outcome}
-use Rattle.rules.specs.Quantities.{within, stressLimits}
+use Rattle.quantities.specs.Quantities.{within, stressLimits}
 use Rattle.rules.specs.Record.{recordSite, recordState, progressOf, withParts, withState, withEvents, isLayer}
 use Rattle.rules.specs.Refusals.{_if_, firstCause}
 use Rattle.rules.specs.Run.{loadSet}

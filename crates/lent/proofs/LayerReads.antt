@@ -31,10 +31,10 @@ use Rattle.rules.proofs.Sound.{compressible, falls-down}
 use Rattle.rules.specs.Curve.{Point, curveSteepness}
 use Rattle.rules.specs.Layer as layer
 use Rattle.rules.specs.Layer.{readElements}
-use Rattle.rules.specs.Quantities.{stressLimits, waterLimits, voidUnit}
+use Rattle.quantities.specs.Quantities.{stressLimits, waterLimits, voidUnit}
 use Rattle.rules.specs.Record.{compressibilityPoints, conductivityPoints, recordSite, recordState, isLayer}
 use Rattle.rules.specs.Step.{Contact, flowsAbove, upwardFlows, tooLongAt, tooLong, siteSteepness, leavesCurve, stepped}
-use Rattle.rules.specs.declared.quantities.Face.{Face}
+use Rattle.quantities.specs.declared.Face.{Face}
 use Rattle.rules.specs.declared.record.Record.{Record}
 use Rattle.step_length.specs.Reach.{Limited, isTooLong, longestWithin}
 

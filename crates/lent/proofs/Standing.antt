@@ -25,7 +25,7 @@ use Rattle.numbers.proofs.Searches.{passed, both, is-true}
 use Rattle.rules.specs.Curve.{Point, isOn}
 use Rattle.rules.specs.Layer as layer
 use Rattle.rules.specs.Layer.{Skeleton, skeletonOf, effectiveStress, burdens}
-use Rattle.rules.specs.Quantities.{solidsLimits, gravityLimits, elementLimits}
+use Rattle.quantities.specs.Quantities.{solidsLimits, gravityLimits, elementLimits}
 use Rattle.rules.specs.Record.{compressibilityPoints, recordSite, recordState, siteSound, stateSound, isLayer}
 use Rattle.rules.specs.Step.{onCurve, allOnCurve}
 use Rattle.rules.specs.declared.record.Record.{Record}

@@ -26,7 +26,7 @@ use Rattle.rules.specs.Layer.{Site, State, readElements}
 use Rattle.rules.specs.Calls.{called}
 use Rattle.rules.specs.declared.answers.Answered.{Answered}
 use Rattle.rules.specs.Outcome.{Outcome, refused, outcome}
-use Rattle.rules.specs.Quantities.{within, stepLimits, clockLimits, solidsLimits}
+use Rattle.quantities.specs.Quantities.{within, stepLimits, clockLimits, solidsLimits}
 use Rattle.rules.specs.Record.{recordSite, recordState, isLayer}
 use Rattle.rules.specs.Refusals.{_if_, firstCause}
 use Rattle.rules.specs.Run.{stepTaken}

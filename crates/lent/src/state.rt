@@ -6,12 +6,12 @@ ghost use mir.Val.{SFits};
 ghost use Prim.Native.Nat.{_+_, _<_, _^_};
 ghost use Rattle.lent.specs.Progress.{loaded, later, refusedWith};
 ghost use Rattle.rules.specs.Record.{withParts};
+use quantities::Clock;
+use quantities::Outflow;
+use quantities::Pressure;
 use rules::answers::Answer;
 use rules::answers::Answered;
 use rules::answers::Refusal;
-use rules::quantities::Clock;
-use rules::quantities::Outflow;
-use rules::quantities::Pressure;
 use rules::record::Progress;
 use rules::record::Record;
 

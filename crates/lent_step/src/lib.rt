@@ -4,7 +4,7 @@ ghost use mathlib.Core.Bool.{true};
 ghost use mathlib.Core.Path.{_≡_};
 ghost use Prim.Native.Nat.{_+_};
 ghost use Rattle.rules.specs.Calls.{called};
-ghost use Rattle.rules.specs.Quantities.{within, stepLimits, clockLimits};
+ghost use Rattle.quantities.specs.Quantities.{within, stepLimits, clockLimits};
 ghost use Rattle.rules.specs.Record.{soilOf, layerOf, recordOf, isLayer};
 ghost use Rattle.rules.specs.declared.answers.Call.the-variants.{Step};
 ghost use Rattle.rules.specs.declared.record.Record.{Record};

@@ -5,11 +5,11 @@ ghost use Prim.Native.Nat.{_≤_};
 ghost use Rattle.lent.specs.Burdens.{burdensIn};
 ghost use Rattle.layer.specs.Held.{Held, heldOf, excessAt, resistanceAt, Stands};
 ghost use Rattle.numbers.specs.Arrays.{filled};
-ghost use Rattle.rules.specs.Quantities.{gravityLimits, elementLimits};
+ghost use Rattle.quantities.specs.Quantities.{gravityLimits, elementLimits};
 ghost use Rattle.rules.specs.Record.{soilOf};
 use layer::read;
 use layer::weights;
-use rules::quantities::Pressure;
+use quantities::Pressure;
 use rules::record::CurveCounts;
 use rules::record::Frame;
 

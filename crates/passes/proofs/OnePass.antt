@@ -24,7 +24,7 @@ use Rattle.rules.specs.Calls.{Ending, endedRun}
 use Rattle.rules.specs.Curve.{Point}
 use Rattle.rules.specs.Layer.{Site, State, readElements}
 use Rattle.rules.specs.Load.{loadAt, nextTime, withLoad}
-use Rattle.rules.specs.Quantities.{elementLimits}
+use Rattle.quantities.specs.Quantities.{elementLimits}
 use Rattle.rules.specs.Record.{recordSite, stateOf, recordState, progressOf, withParts, withState, isLayer}
 use Rattle.rules.specs.Run.{loadSet, stepTaken, afterEvent, longestStep, Turn, stops, goes, turn}
 use Rattle.rules.specs.Step.{upwardFlows, tooLong, stepped}

@@ -16,9 +16,9 @@ use Rattle.numbers.specs.Arrays.{firstPlaces, overlaid}
 use Rattle.numbers.proofs.Filled.{first-length}
 use Rattle.numbers.proofs.Interval.{within-fits, within-le}
 use Rattle.numbers.proofs.Searches.{passed, both, is-true}
-use Rattle.rules.proofs.Limits.{inside}
+use Rattle.quantities.proofs.Limits.{inside}
 use Rattle.rules.specs.Calls.{Ending, endedRun}
-use Rattle.rules.specs.Quantities.{clockLimits, startingWaterLimits, mostOutflow}
+use Rattle.quantities.specs.Quantities.{clockLimits, startingWaterLimits, mostOutflow}
 use Rattle.rules.specs.Record.{recordSite, stateOf, recordState, withParts, withState, withEvents, siteSound, stateSound, isLayer}
 use Rattle.rules.specs.Run.{Event, afterEvents, stepCount, running}
 use Rattle.rules.specs.declared.answers.Stop.{Stop}

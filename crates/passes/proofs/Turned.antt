@@ -18,9 +18,9 @@ use Rattle.rules.specs.Layer.{Site, State, readElements}
 use Rattle.rules.specs.Record.{recordSite, recordState, withState, isLayer}
 use Rattle.rules.specs.Run.{Turn, stops, goes, turn}
 use Rattle.rules.specs.Step.{upwardFlows, tooLong, leavesCurve}
-use Rattle.rules.specs.Quantities.{stressLimits, waterLimits}
+use Rattle.quantities.specs.Quantities.{stressLimits, waterLimits}
 use Rattle.rules.specs.declared.answers.Stop.the-variants.{OffCurve}
-use Rattle.rules.specs.declared.quantities.Face.{Face}
+use Rattle.quantities.specs.declared.Face.{Face}
 use Rattle.rules.specs.declared.record.Record.{Record}
 use Rattle.step_length.specs.Reach.{Limited, longestWithin}
 

@@ -7,7 +7,7 @@ use Rattle.lent.specs.Progress.{loaded}
 use Rattle.numbers.specs.Arrays.{filled}
 use Rattle.rules.specs.Layer.{readElements}
 use Rattle.rules.specs.Load.{loadAt}
-use Rattle.rules.specs.Quantities.{pressure}
+use Rattle.quantities.specs.Quantities.{pressure}
 use Rattle.rules.specs.Record.{recordSite, recordState, withParts, withState}
 use Rattle.rules.specs.Run.{longestStep, Turn, stops, goes, turn}
 use Rattle.rules.specs.Step.{flowsAbove, stepped}

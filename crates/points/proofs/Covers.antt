@@ -11,9 +11,9 @@ use Rattle.numbers.proofs.Filled.{length-tabulate}
 use Rattle.numbers.specs.Lists.{lastOr}
 use Rattle.numbers.proofs.Searches.{passed, same-test}
 use Rattle.rules.specs.Curve.{Point, points, curveAt, isOn, rising}
-use Rattle.rules.specs.Quantities.{within, from_to_}
+use Rattle.quantities.specs.Quantities.{within, from_to_}
 use Rattle.rules.proofs.Falling.{firstAbscissa}
-use Rattle.rules.proofs.Limits.{within-parts, inside}
+use Rattle.quantities.proofs.Limits.{within-parts, inside}
 use Rattle.rules.proofs.Points.{at}
 
 last-tabulate : {A : Type 0} (m : ℕ) (f : ℕ → A) → lastOr (f zero) (tabulate m (λ k. f (suc k))) ≡ f m

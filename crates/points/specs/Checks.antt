@@ -2,7 +2,7 @@
 use lib.Dec.{leb, ltb}
 use mathlib.Core.Bool.{Bool, _&&_}
 use Rattle.rules.specs.Curve.{Point}
-use Rattle.rules.specs.Quantities.{Limits, within}
+use Rattle.quantities.specs.Quantities.{Limits, within}
 use Rattle.points.specs.declared.checks.Trend.{Trend}
 use Rattle.points.specs.declared.checks.Trend.the-variants.{Falls, Rises, Later}
 

@@ -6,9 +6,8 @@ ghost use Prim.Native.Nat.{ℕ, _+_, _≤_, _<_};
 ghost use Rattle.points.specs.Checks.{pointWithin, follows};
 ghost use Rattle.numbers.specs.Lists.{all, neighbours};
 ghost use Rattle.rules.specs.Curve.{point, points, rising, covers, compressibilitySound, conductivitySound};
-ghost use Rattle.rules.specs.Quantities.{curveLimits, limitsOf};
-use rules::quantities;
-use rules::quantities::Kind;
+ghost use Rattle.quantities.specs.Quantities.{curveLimits, limitsOf};
+use quantities::Kind;
 
 // How points follow one another: on the compressibility curve, on the conductivity curve, in the load table.
 pub enum Trend {

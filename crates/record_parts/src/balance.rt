@@ -7,8 +7,8 @@ ghost use Rattle.numbers.specs.Arrays.{firstPlaces};
 ghost use Rattle.numbers.specs.Integers.{eqℤ};
 ghost use Rattle.numbers.specs.Interval.{Within};
 ghost use Rattle.numbers.specs.Sums.{sum};
-ghost use Rattle.rules.specs.Quantities.{waterLimits, elementLimits, startingWaterLimits, mostOutflow};
-use rules::quantities::Outflow;
+ghost use Rattle.quantities.specs.Quantities.{waterLimits, elementLimits, startingWaterLimits, mostOutflow};
+use quantities::Outflow;
 
 // All water of the first elements.
 pub fn total_water(elements: usize, water: &[u64; 128]) -> u64

@@ -3,11 +3,11 @@ ghost use lib.IntN.{pos};
 ghost use mathlib.Core.Path.{_≡_};
 ghost use Rattle.laws.specs.Amid.{Between};
 ghost use Rattle.rules.specs.Layer.{bottomPressure};
-ghost use Rattle.rules.specs.Quantities.{levelLimits};
+ghost use Rattle.quantities.specs.Quantities.{levelLimits};
 ghost use Rattle.rules.specs.Record.{faceNumber, closedAtZero, faceHolds};
-use rules::quantities::Face;
-use rules::quantities::Head;
-use rules::quantities::Pressure;
+use quantities::Face;
+use quantities::Head;
+use quantities::Pressure;
 
 // The job's number of a face.
 pub fn face_number(face: Face) -> u8

@@ -2,12 +2,12 @@
 ghost use mathlib.Core.Path.{_≡_};
 ghost use Rattle.rules.specs.Job.{headerSound};
 ghost use Rattle.rules.specs.Record.{formSound};
+use quantities::CurvePoints;
+use quantities::Elements;
+use quantities::Flag;
+use quantities::Gravity;
+use quantities::TablePoints;
 use rules::job::Header;
-use rules::quantities::CurvePoints;
-use rules::quantities::Elements;
-use rules::quantities::Flag;
-use rules::quantities::Gravity;
-use rules::quantities::TablePoints;
 
 // Whether the numbers of a job's bytes 5 to 13 keep their limits.
 pub fn form_sound(

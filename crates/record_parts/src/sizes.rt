@@ -4,12 +4,12 @@ ghost use Prim.Native.Nat.{_≤_};
 ghost use Rattle.numbers.specs.Arrays.{firstPlaces};
 ghost use Rattle.numbers.specs.Lists.{all};
 ghost use Rattle.rules.specs.Layer.{Site};
-ghost use Rattle.rules.specs.Quantities.{within, elementLimits, limitsOf};
+ghost use Rattle.quantities.specs.Quantities.{within, elementLimits, limitsOf};
 ghost use Rattle.rules.specs.Record.{heightsSound, sizesSound};
 use crate::faces;
-use rules::quantities::Face;
-use rules::quantities::Head;
-use rules::quantities::Kind;
+use quantities::Face;
+use quantities::Head;
+use quantities::Kind;
 
 // Whether the first numbers keep the limits of a kind.
 pub fn all_within(elements: usize, kind: Kind, numbers: &[u64; 128]) -> bool

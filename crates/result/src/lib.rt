@@ -5,7 +5,7 @@ ghost use mathlib.Core.Path.{_≡_};
 ghost use Prim.Native.Nat.{_≤_};
 ghost use Rattle.lent.specs.Burdens.{burdensIn};
 ghost use Rattle.numbers.specs.Arrays.{overlaid};
-ghost use Rattle.rules.specs.Quantities.{elementLimits};
+ghost use Rattle.quantities.specs.Quantities.{elementLimits};
 ghost use Rattle.rules.specs.Record.{soilOf, layerOf, recordOf, isLayer};
 ghost use Rattle.rules.specs.Refusals.{refusalNumber};
 ghost use Rattle.rules.specs.Result.{resultBytes, resultSize, result};

@@ -7,7 +7,7 @@ use lib.Seq.{sets}
 use mathlib.Core.List.{List}
 use mathlib.Core.Path.{_≡_, refl}
 use Rattle.numbers.specs.Bytes.{bytes}
-use Rattle.rules.specs.Quantities.{elementLimits}
+use Rattle.quantities.specs.Quantities.{elementLimits}
 use Rattle.rules.specs.Result.{beforeClock, headBytes}
 use Rattle.rules.specs.Run.{stopNumber}
 use Rattle.rules.specs.declared.answers.Stop.{Stop}

@@ -16,7 +16,7 @@ use Rattle.numbers.proofs.Interval.{intervals, within-add, within-cut, within-m
 use Rattle.numbers.proofs.Searches.{passed}
 use Rattle.numbers.proofs.Signed.{one-sided, sub-parts}
 use Rattle.result_fields.specs.Elements.{mostHeight, mostPore}
-use Rattle.rules.specs.Quantities.{head, levelLimits, pressureOf, solidsLimits, stressLimits, waterLimits, withinℤ, mostHeadPressure}
+use Rattle.quantities.specs.Quantities.{head, levelLimits, pressureOf, solidsLimits, stressLimits, waterLimits, withinℤ, mostHeadPressure}
 use Rattle.rules.specs.Curve.{Point, points, valueOf, compressibilitySound}
 use Rattle.rules.specs.Layer.{skeletonOf, voidRatio, effectiveStress, excessPressure}
 use Rattle.rules.specs.Result.{nodeHeight, poreOver}

@@ -6,7 +6,7 @@ ghost use lib.Signed.{_≤ℤ_};
 ghost use mathlib.Core.Path.{_≡_};
 ghost use Prim.Native.Nat.{_≤_};
 ghost use Rattle.numbers.specs.Integers.{up};
-ghost use Rattle.rules.specs.Quantities.{elementLimits};
+ghost use Rattle.quantities.specs.Quantities.{elementLimits};
 ghost use Rattle.rules.specs.Result.{beforeClock, headBytes};
 use rules::answers::Ended;
 use rules::answers::Stop;

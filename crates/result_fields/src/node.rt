@@ -10,12 +10,12 @@ ghost use Rattle.numbers.specs.Arrays.{firstPlaces};
 ghost use Rattle.numbers.specs.Interval.{Within};
 ghost use Rattle.result_fields.specs.Elements.{mostHeight, mostPore};
 ghost use Rattle.rules.specs.Curve.{points, compressibilitySound};
-ghost use Rattle.rules.specs.Quantities.{levelLimits, solidsLimits, stressLimits, waterLimits, pressure, withinℤ, elementLimits, curveLimits};
+ghost use Rattle.quantities.specs.Quantities.{levelLimits, solidsLimits, stressLimits, waterLimits, pressure, withinℤ, elementLimits, curveLimits};
 ghost use Rattle.rules.specs.Result.{nodeHeight, poreOver, elementWords, elementBytes, elementsBytes};
 ghost use Rattle.rules.specs.Layer.{skeletonOf};
 use curves::reading;
-use rules::quantities::Head;
-use rules::quantities::Pressure;
+use quantities::Head;
+use quantities::Pressure;
 use rules::record::Skeleton;
 
 // z of an element over the height of all below.

@@ -12,8 +12,8 @@ use Rattle.numbers.specs.Lists.{neighbours}
 use Rattle.numbers.proofs.Searches.{both, joined}
 use Rattle.numbers.proofs.Shares.{interpolates}
 use Rattle.rules.specs.Curve.{Point, spans, interpolated, curveAt, isOn, valueOf, falling}
-use Rattle.rules.specs.declared.quantities.CurveValue.{CurveValue}
-use Rattle.rules.specs.declared.quantities.CurveValue.the-variants.{On}
+use Rattle.quantities.specs.declared.CurveValue.{CurveValue}
+use Rattle.quantities.specs.declared.CurveValue.the-variants.{On}
 
 -- what a curve gives, by its first segment or by the rest
 pub on-segment : (a b : Point) (rest : List Point) (x : ℕ) (P : CurveValue → Type 0) →

@@ -1,5 +1,4 @@
 -- What is proved of the rules here: the least water at rest, and the specimen's table.
-pub mod Limits
 pub mod Points
 pub mod Falling
 pub mod Sound

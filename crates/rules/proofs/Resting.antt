@@ -10,10 +10,10 @@ use Rattle.numbers.proofs.Division.{floor-mono}
 use Rattle.numbers.proofs.Searches.{failed, least-found, least-none}
 use Rattle.rules.specs.Curve.{Point, curveAt, isOn, valueOf, falling}
 use Rattle.rules.specs.Layer.{skeletonOf, voidRatio, effectiveStress}
-use Rattle.rules.specs.Quantities.{voidUnit, waterLimits}
+use Rattle.quantities.specs.Quantities.{voidUnit, waterLimits}
 use Rattle.rules.specs.Start.{atMost, restingWater}
-use Rattle.rules.specs.declared.quantities.CurveValue.{CurveValue}
-use Rattle.rules.specs.declared.quantities.CurveValue.the-variants.{On, Off}
+use Rattle.quantities.specs.declared.CurveValue.{CurveValue}
+use Rattle.quantities.specs.declared.CurveValue.the-variants.{On, Off}
 use Rattle.rules.proofs.Falling.{firstAbscissa, firstOrdinate, on-from-first, never-rises}
 
 -- what passes the test is on the curve, and its stress is not above the limit

@@ -11,8 +11,8 @@ use Rattle.numbers.specs.Lists.{all}
 use Rattle.numbers.specs.Rounding.{ceil}
 use Rattle.numbers.proofs.Searches.{passed, both}
 use Rattle.rules.specs.Curve.{Point, points, falling, rising, covers, compressibilitySound, conductivitySound, curveSteepness}
-use Rattle.rules.specs.Quantities.{within, stressLimits, voidLimits, conductivityLimits}
-use Rattle.rules.proofs.Limits.{within-parts}
+use Rattle.quantities.specs.Quantities.{within, stressLimits, voidLimits, conductivityLimits}
+use Rattle.quantities.proofs.Limits.{within-parts}
 use Rattle.rules.proofs.Points.{from-segment, from-point, from-end, from-last, all-at, neighbours-at}
 
 -- the points of a compressibility curve

@@ -5,7 +5,7 @@ use mathlib.Core.Bool.{false}
 use mathlib.Core.List.{List}
 use mathlib.Core.Option.{some}
 use mathlib.Core.Path.{_≡_, refl}
-use Rattle.rules.specs.Quantities.{waterLimits, pressureOf}
+use Rattle.quantities.specs.Quantities.{waterLimits, pressureOf}
 use Rattle.rules.specs.Curve.{Point, falling}
 use Rattle.rules.specs.Layer.{skeletonOf, voidRatio, effectiveStress}
 use Rattle.rules.specs.Record.{recordSite, recordState}

@@ -10,9 +10,9 @@ use Rattle.numbers.specs.Rounding.{ceil}
 use Rattle.numbers.specs.Interpolation.{distance, share}
 use Rattle.numbers.specs.Arrays.{tabulate}
 use Rattle.numbers.specs.Lists.{all, neighbours}
-use Rattle.rules.specs.Quantities.{within, stressLimits, voidLimits, conductivityLimits}
-use Rattle.rules.specs.declared.quantities.CurveValue.{CurveValue}
-use Rattle.rules.specs.declared.quantities.CurveValue.the-variants.{On, Off}
+use Rattle.quantities.specs.Quantities.{within, stressLimits, voidLimits, conductivityLimits}
+use Rattle.quantities.specs.declared.CurveValue.{CurveValue}
+use Rattle.quantities.specs.declared.CurveValue.the-variants.{On, Off}
 
 pub record Point : Type 0 where
   pub abscissa : ℕ

@@ -9,7 +9,7 @@ use Rattle.numbers.specs.Arrays.{firstPlaces, filled, zeros}
 pub use Rattle.numbers.specs.Bytes.{field}
 use Rattle.numbers.specs.Bytes.{column}
 use Rattle.numbers.specs.Lists.{all}
-use Rattle.rules.specs.Quantities.{within, clockLimits, budgetLimits, head}
+use Rattle.quantities.specs.Quantities.{within, clockLimits, budgetLimits, head}
 use Rattle.rules.specs.Curve.{points, compressibilitySound, conductivitySound}
 use Rattle.rules.specs.Layer.{Site, topPressure, bottomPressure}
 use Rattle.rules.specs.Load.{tableSound}
@@ -17,9 +17,9 @@ use Rattle.rules.specs.Record.{formSound, sizesSound}
 use Rattle.rules.specs.Refusals.{Trial, _if_}
 use Rattle.rules.specs.declared.answers.Refusal.the-variants.{ShortOrUnmarked, OtherVersion, HeaderOutside, WrongLength, FieldOutside, CompressibilityCurve, ConductivityCurve, LoadTable}
 use Rattle.rules.specs.declared.job.Header.{Header}
-use Rattle.rules.specs.declared.quantities.Face.{Face}
-use Rattle.rules.specs.declared.quantities.Face.the-variants.{Closed, Drained}
-use Rattle.rules.specs.declared.quantities.Pressure.{Pressure}
+use Rattle.quantities.specs.declared.Face.{Face}
+use Rattle.quantities.specs.declared.Face.the-variants.{Closed, Drained}
+use Rattle.quantities.specs.declared.Pressure.{Pressure}
 use Rattle.rules.specs.declared.record.CurveCounts.{CurveCounts}
 use Rattle.rules.specs.declared.record.Frame.{Frame}
 

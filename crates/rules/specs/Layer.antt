@@ -5,11 +5,11 @@ use mathlib.Core.List.{List, [], _∷_, map}
 use Rattle.numbers.specs.Lists.{tripled}
 use Rattle.numbers.specs.Rounding.{floor, ceil}
 use Rattle.numbers.specs.Sums.{sum}
-use Rattle.rules.specs.Quantities.{voidUnit, head, pressure, pressureOf}
+use Rattle.quantities.specs.Quantities.{voidUnit, head, pressure, pressureOf}
 use Rattle.rules.specs.Curve.{Point, curveAt, valueOf}
-use Rattle.rules.specs.declared.quantities.CurveValue.{CurveValue}
-use Rattle.rules.specs.declared.quantities.Face.{Face}
-use Rattle.rules.specs.declared.quantities.Pressure.{Pressure}
+use Rattle.quantities.specs.declared.CurveValue.{CurveValue}
+use Rattle.quantities.specs.declared.Face.{Face}
+use Rattle.quantities.specs.declared.Pressure.{Pressure}
 
 -- What a job fixes for good. Elements are listed from the lowest up.
 pub record Site : Type 0 where

@@ -1,6 +1,4 @@
 -- The rules of the consolidation key, in the order of document 01. A definition here is what "right" means; every contract cites one.
-pub mod Quantities
-pub mod Tested
 pub mod Curve
 pub mod Layer
 pub mod Refusals

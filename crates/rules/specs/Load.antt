@@ -7,7 +7,7 @@ use mathlib.Core.List.{List, [], _∷_}
 use mathlib.Core.Option.{Option}
 use Rattle.numbers.specs.Rounding.{cut}
 use Rattle.numbers.specs.Lists.{all, neighbours, firstOr}
-use Rattle.rules.specs.Quantities.{within, stressLimits, clockLimits}
+use Rattle.quantities.specs.Quantities.{within, stressLimits, clockLimits}
 use Rattle.rules.specs.Curve.{Point, point}
 use Rattle.rules.specs.Layer.{State}
 use Rattle.rules.specs.Refusals.{_if_, firstCause}

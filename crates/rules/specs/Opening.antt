@@ -6,7 +6,7 @@ use mathlib.Core.List.{List, [], _∷_}
 use mathlib.Core.Option.{Option, none, some}
 use Rattle.numbers.specs.Arrays.{zeros, overlaid}
 use Rattle.numbers.specs.Sums.{sum}
-use Rattle.rules.specs.Quantities.{head}
+use Rattle.quantities.specs.Quantities.{head}
 use Rattle.rules.specs.Layer.{State, skeleton, burdens}
 use Rattle.rules.specs.Start.{startWater, openingLoad, openingState}
 use Rattle.rules.specs.Outcome.{Numbers, answerNumbers}
@@ -18,7 +18,7 @@ use Rattle.rules.specs.declared.answers.Answer.the-variants.{Done, Refus
 use Rattle.rules.specs.declared.answers.Answered.{Answered}
 use Rattle.rules.specs.declared.answers.Refusal.{Refusal}
 use Rattle.rules.specs.declared.answers.Refusal.the-variants.{HeaderOutside, StartOffCurve}
-use Rattle.rules.specs.declared.quantities.Face.the-variants.{Closed}
+use Rattle.quantities.specs.declared.Face.the-variants.{Closed}
 use Rattle.rules.specs.declared.record.Record.{Record}
 
 -- what stands where a job is refused: a record that is no layer

@@ -1,22 +1,21 @@
 -- The record: what it holds of a job and of a state, and when it is a layer.
 use Prim.Native.Nat.{ℕ, _*_}
-use lib.Dec.{leb}
-use lib.IntN.{ℤ, pos, natAbs, _+ℤ_}
+use lib.IntN.{ℤ, pos, _+ℤ_}
 use mathlib.Core.Bool.{Bool, true, _&&_}
 use mathlib.Core.List.{List, [], _∷_, map}
 use Rattle.numbers.specs.Arrays.{firstPlaces, overlaid}
 use Rattle.numbers.specs.Integers.{eqℤ}
 use Rattle.numbers.specs.Lists.{all}
 use Rattle.numbers.specs.Sums.{sum}
-use Rattle.rules.specs.Quantities.{within, withinℤ, stressLimits, levelLimits, clockLimits, solidsLimits, waterLimits, gravityLimits, elementLimits, curveLimits, tableLimits, flagLimits, startingWaterLimits, outflowRate, pressure}
+use Rattle.quantities.specs.Quantities.{within, withinℤ, stressLimits, levelLimits, clockLimits, solidsLimits, waterLimits, gravityLimits, elementLimits, curveLimits, tableLimits, flagLimits, startingWaterLimits, outflowWithin, pressure}
 use Rattle.rules.specs.Curve.{Point, points, compressibilitySound, conductivitySound}
 use Rattle.rules.specs.Layer.{Site, State, skeleton, topPressure, bottomPressure}
 use Rattle.rules.specs.Step.{allOnCurve}
 use Rattle.rules.specs.Load.{tableSound}
 use Rattle.rules.specs.Run.{Event, afterEvents}
-use Rattle.rules.specs.declared.quantities.Face.{Face}
-use Rattle.rules.specs.declared.quantities.Face.the-variants.{Closed, Drained}
-use Rattle.rules.specs.declared.quantities.Pressure.{Pressure}
+use Rattle.quantities.specs.declared.Face.{Face}
+use Rattle.quantities.specs.declared.Face.the-variants.{Closed, Drained}
+use Rattle.quantities.specs.declared.Pressure.{Pressure}
 use Rattle.rules.specs.declared.record.CurveCounts.{CurveCounts}
 use Rattle.rules.specs.declared.record.Frame.{Frame}
 use Rattle.rules.specs.declared.record.Layer.{Layer}
@@ -144,10 +143,6 @@ withEvents r (e ∷ rest) = withState r (afterEvents (recordSite r) (e ∷ rest)
 unfoldable pub faceHolds : Face → Pressure → Bool
 faceHolds Closed held = true
 faceHolds (Drained other) held = eqℤ (other .0) (held .0)
-
--- an outflow keeps its bound
-unfoldable pub outflowWithin : (outflow : ℤ) (clock : ℕ) → Bool
-outflowWithin outflow clock = leb (natAbs outflow) (outflowRate * clock)
 
 -- what a record holds of a job meets the causes 3 and 5 to 8, and its faces hold 0 and P
 unfoldable pub siteSound : Record → Bool

@@ -12,7 +12,7 @@ use Rattle.numbers.specs.Integers.{up, signedField}
 use Rattle.numbers.specs.Lists.{paired, tripled, appended}
 use Rattle.numbers.specs.Rounding.{floor}
 use Rattle.numbers.specs.Sums.{sum}
-use Rattle.rules.specs.Quantities.{head, pressureOf, elementLimits}
+use Rattle.quantities.specs.Quantities.{head, pressureOf, elementLimits}
 use Rattle.rules.specs.Curve.{valueOf}
 use Rattle.rules.specs.Layer.{Skeleton, skeleton, height, voidRatio, effectiveStress, burdens, excessPressure}
 use Rattle.rules.specs.Record.{recordSite, recordState, isLayer}

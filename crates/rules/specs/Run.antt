@@ -6,7 +6,7 @@ use mathlib.Core.Bool.{true, false, not, _||_}
 use mathlib.Core.List.{List, [], _∷_}
 use mathlib.Core.Option.{Option}
 use Rattle.numbers.specs.Lists.{greatest}
-use Rattle.rules.specs.Quantities.{within, clockLimits, stepLimits, budgetLimits}
+use Rattle.quantities.specs.Quantities.{within, clockLimits, stepLimits, budgetLimits}
 use Rattle.rules.specs.Layer.{Site, State}
 use Rattle.rules.specs.Refusals.{_if_, firstCause}
 use Rattle.rules.specs.Step.{stepped, tooLong, leavesCurve}

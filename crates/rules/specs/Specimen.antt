@@ -5,7 +5,7 @@ use mathlib.Core.List.{List, [], _∷_, _++_, map}
 use mathlib.Core.Path.{_≡_}
 use Rattle.numbers.specs.Bytes.{bytes}
 use Rattle.numbers.specs.Lists.{paired}
-use Rattle.rules.specs.Quantities.{head, pressure, pressureOf}
+use Rattle.quantities.specs.Quantities.{head, pressure, pressureOf}
 use Rattle.rules.specs.Layer.{State, skeleton, Element, readElements, effectiveStress, burdens}
 use Rattle.rules.specs.Outcome.{answerNumber}
 use Rattle.rules.specs.Record.{recordSite, recordState}
@@ -13,8 +13,8 @@ use Rattle.rules.specs.Opening.{opening}
 use Rattle.rules.specs.Calls.{Replay, replayed}
 use Rattle.rules.specs.declared.answers.Call.{Call}
 use Rattle.rules.specs.declared.answers.Call.the-variants.{Load, Step}
-use Rattle.rules.specs.declared.quantities.CurveValue.{CurveValue}
-use Rattle.rules.specs.declared.quantities.CurveValue.the-variants.{On}
+use Rattle.quantities.specs.declared.CurveValue.{CurveValue}
+use Rattle.quantities.specs.declared.CurveValue.the-variants.{On}
 use Rattle.rules.specs.declared.record.Record.{Record}
 
 unfoldable pub pair : ℕ → ℕ → List ℕ

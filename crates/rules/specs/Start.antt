@@ -6,13 +6,13 @@ use mathlib.Core.Bool.{Bool, true, false}
 use mathlib.Core.List.{List, [], _∷_, map}
 use mathlib.Core.Option.{Option, none, some}
 use Rattle.numbers.specs.Lists.{least, lastOr, paired, allSome}
-use Rattle.rules.specs.Quantities.{waterLimits}
+use Rattle.quantities.specs.Quantities.{waterLimits}
 use Rattle.rules.specs.Curve.{Point, point}
 use Rattle.rules.specs.Layer.{Site, State, Skeleton, effectiveStress}
 use Rattle.rules.specs.Step.{allOnCurve}
 use Rattle.rules.specs.Load.{firstPoint}
-use Rattle.rules.specs.declared.quantities.CurveValue.{CurveValue}
-use Rattle.rules.specs.declared.quantities.CurveValue.the-variants.{On, Off}
+use Rattle.quantities.specs.declared.CurveValue.{CurveValue}
+use Rattle.quantities.specs.declared.CurveValue.the-variants.{On, Off}
 
 -- the load at opening: the table's first
 unfoldable pub openingLoad : Site → ℕ

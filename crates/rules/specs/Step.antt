@@ -8,12 +8,12 @@ use mathlib.Core.List.{List, [], _∷_, _++_}
 use mathlib.Core.Option.{Option}
 use Rattle.numbers.specs.Rounding.{cut}
 use Rattle.numbers.specs.Lists.{all, any, paired, tripled, firstOr, lastOr}
-use Rattle.rules.specs.Quantities.{within, stepLimits, clockLimits}
+use Rattle.quantities.specs.Quantities.{within, stepLimits, clockLimits}
 use Rattle.rules.specs.Curve.{curveSteepness, isOn}
 use Rattle.rules.specs.Layer.{Site, State, Skeleton, skeleton, Element, readElements, effectiveStress}
 use Rattle.rules.specs.Refusals.{_if_, firstCause}
-use Rattle.rules.specs.declared.quantities.Face.{Face}
-use Rattle.rules.specs.declared.quantities.Face.the-variants.{Closed, Drained}
+use Rattle.quantities.specs.declared.Face.{Face}
+use Rattle.quantities.specs.declared.Face.the-variants.{Closed, Drained}
 use Rattle.rules.specs.declared.answers.Refusal.{Refusal}
 use Rattle.rules.specs.declared.answers.Refusal.the-variants.{StepOutside, StepTooLong, StepOffCurve}
 

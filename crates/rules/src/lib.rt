@@ -1,5 +1,4 @@
 // The types that the rules name. The rules themselves are definitions, in specs/.
 pub mod answers;
 pub mod job;
-pub mod quantities;
 pub mod record;

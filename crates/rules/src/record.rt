@@ -1,8 +1,8 @@
-use crate::quantities::Clock;
-use crate::quantities::Face;
-use crate::quantities::Head;
-use crate::quantities::Outflow;
-use crate::quantities::Pressure;
+use quantities::Clock;
+use quantities::Face;
+use quantities::Head;
+use quantities::Outflow;
+use quantities::Pressure;
 
 // How many points each curve of a soil has.
 pub struct CurveCounts {

@@ -9,7 +9,7 @@ use Rattle.lent.proofs.CallLaws.{on-layer, refused-on-layer}
 use Rattle.lent.specs.Progress.{refusedWith}
 use Rattle.rules.specs.Calls.{called, Ending, endedRun}
 use Rattle.rules.specs.Outcome.{Outcome, refused, ran, outcome}
-use Rattle.rules.specs.Quantities.{within, clockLimits, budgetLimits}
+use Rattle.quantities.specs.Quantities.{within, clockLimits, budgetLimits}
 use Rattle.rules.specs.Record.{recordSite, recordState, isLayer}
 use Rattle.rules.specs.Refusals.{_if_, firstCause}
 use Rattle.rules.specs.Run.{runRefusal}

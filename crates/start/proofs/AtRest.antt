@@ -14,7 +14,7 @@ use Rattle.laws.proofs.Index.{points-length}
 use Rattle.numbers.proofs.Searches.{failed, both, least-found, least-none}
 use Rattle.rules.specs.Curve.{Point, points, compressibilitySound}
 use Rattle.rules.specs.Layer.{skeletonOf, effectiveStress}
-use Rattle.rules.specs.Quantities.{waterLimits}
+use Rattle.quantities.specs.Quantities.{waterLimits}
 use Rattle.rules.specs.Start.{atMost, restingWater}
 use Rattle.rules.proofs.Resting.{at-most-parts, at-most-mono}
 use Rattle.rules.proofs.Sound.{falls-down}

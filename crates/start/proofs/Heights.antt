@@ -12,7 +12,7 @@ use Rattle.laws.specs.Every.{Every}
 use Rattle.numbers.specs.Arrays.{tabulate}
 use Rattle.numbers.specs.Lists.{least}
 use Rattle.rules.specs.Layer.{Skeleton, effectiveStress}
-use Rattle.rules.specs.Quantities.{waterLimits}
+use Rattle.quantities.specs.Quantities.{waterLimits}
 use Rattle.numbers.specs.Lists.{prepended}
 use Rattle.rules.specs.Start.{atMost, restingWater, lastStress, restingFrom}
 use Rattle.start.specs.Rest.{restingHeights}

@@ -9,12 +9,12 @@ ghost use Rattle.laws.specs.Most.{mostBurden};
 ghost use Rattle.numbers.specs.Arrays.{firstPlaces, overlaid};
 ghost use Rattle.rules.specs.Curve.{points, isOn, compressibilitySound};
 ghost use Rattle.rules.specs.Layer.{Site, skeletonOf, effectiveStress};
-ghost use Rattle.rules.specs.Quantities.{stressLimits, solidsLimits, waterLimits, elementLimits, curveLimits};
+ghost use Rattle.quantities.specs.Quantities.{stressLimits, solidsLimits, waterLimits, elementLimits, curveLimits};
 ghost use Rattle.rules.specs.Start.{atMost, restingWater, restingUnder, restingFrom};
 ghost use Rattle.rules.specs.Step.{allOnCurve};
 ghost use Rattle.start.specs.Rest.{restingAnswer, restingHeights, allOrNone};
 use curves::reading;
-use rules::quantities::CurveValue;
+use quantities::CurveValue;
 use rules::record::Skeleton;
 
 // Where the water of an element rests: at a height, or at none.

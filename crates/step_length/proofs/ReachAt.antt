@@ -18,9 +18,9 @@ use Rattle.step_length.specs.Reach.{Limited, touching, isTooLong, longes
 use Rattle.numbers.proofs.Filled.{drop-tabulate, drop-tabulate-end}
 use Rattle.numbers.specs.Rounding.{floor}
 use Rattle.rules.specs.Layer.{Element}
-use Rattle.rules.specs.Quantities.{stressLimits}
+use Rattle.quantities.specs.Quantities.{stressLimits}
 use Rattle.rules.specs.Step.{innerResistance, outerContacts, contactsAbove, contacts}
-use Rattle.rules.specs.declared.quantities.Face.{Face}
+use Rattle.quantities.specs.declared.Face.{Face}
 
 -- what a resistance is divided by is positive and fits
 pub divisor-range : (c K : ℕ) → 0 < c → c ≤ mostSensitivity → 0 < K → K ≤ stressLimits .most →

@@ -7,7 +7,7 @@ use Rattle.element.specs.Elements.{elementsIn}
 use Rattle.laws.specs.Most.{mostResistance, mostSensitivity}
 use Rattle.numbers.specs.Lists.{any, greatest}
 use Rattle.rules.specs.Step.{Contact, contacts, tooLongAt}
-use Rattle.rules.specs.declared.quantities.Face.{Face}
+use Rattle.quantities.specs.declared.Face.{Face}
 
 -- every element with every inner or drained face of it
 abbrev pub touching : (top bottom : Face) (n : ℕ) (resistance sensitivity : List ℕ) → List Contact

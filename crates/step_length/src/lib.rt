@@ -12,8 +12,8 @@ ghost use Rattle.numbers.specs.Arrays.{filled};
 ghost use Rattle.numbers.specs.Rounding.{floor};
 ghost use Rattle.rules.specs.Layer as layer;
 ghost use Rattle.rules.specs.Step.{outerContacts};
-ghost use Rattle.rules.specs.Quantities.{solidsLimits, stressLimits, stepLimits, elementLimits};
-use rules::quantities::Face;
+ghost use Rattle.quantities.specs.Quantities.{solidsLimits, stressLimits, stepLimits, elementLimits};
+use quantities::Face;
 
 // The sensitivity of every element.
 pub fn sensitivities<'a>(elements: usize, solids: &'a [u64; 128], sensitivity: &mut [u64; 128])

@@ -17,8 +17,8 @@ use Rattle.numbers.proofs.Shares.{interpolates}
 use Rattle.numbers.proofs.Signed.{signed, one-sided, add-parts, sub-parts, up-mul, down-mul, up-cut, down-cut}
 use Rattle.rules.specs.Curve.{Point, points}
 use Rattle.rules.specs.Load.{firstPoint, tableSound, loadAt, nextTime}
-use Rattle.rules.specs.Quantities.{within, clockLimits, stressLimits}
-use Rattle.rules.proofs.Limits.{within-parts}
+use Rattle.quantities.specs.Quantities.{within, clockLimits, stressLimits}
+use Rattle.quantities.proofs.Limits.{within-parts}
 use Rattle.rules.proofs.Points.{from-point, from-segment, from-end, from-last, all-at, neighbours-at}
 use Rattle.points.specs.Checks.{pointWithin, follows}
 use Rattle.points.specs.declared.checks.Trend.the-variants.{Later}

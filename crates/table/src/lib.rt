@@ -9,11 +9,11 @@ ghost use Rattle.numbers.specs.Interval.{Within};
 ghost use Rattle.numbers.specs.Rounding.{cut};
 ghost use Rattle.rules.specs.Curve.{points};
 ghost use Rattle.rules.specs.Load.{tableSound, loadAt, nextTime};
-ghost use Rattle.rules.specs.Quantities.{stressLimits, clockLimits, tableLimits, pressure};
+ghost use Rattle.quantities.specs.Quantities.{stressLimits, clockLimits, tableLimits, pressure};
 use points::checks;
 use points::checks::Trend;
-use rules::quantities::Kind;
-use rules::quantities::Pressure;
+use quantities::Kind;
+use quantities::Pressure;
 
 // Whether the first time is 0, times strictly rise, and times and loads keep their limits.
 pub fn table_sound<'a>(table_points: usize, time: &'a [u64; 64], load: &'a [u64; 64]) -> bool

@@ -6,10 +6,10 @@ use mathlib.Core.Bool.{Bool, true, false, _&&_}
 use mathlib.Core.List.{List}
 use Rattle.numbers.specs.Bytes.{field, signedNumber}
 use Rattle.rules.specs.Job.{firsts, seconds}
-use Rattle.rules.specs.Quantities.{head, pressure}
+use Rattle.quantities.specs.Quantities.{head, pressure}
 use Rattle.rules.specs.Record.{soilOf, layerOf, recordOf}
-use Rattle.rules.specs.declared.quantities.Face.{Face}
-use Rattle.rules.specs.declared.quantities.Face.the-variants.{Closed, Drained}
+use Rattle.quantities.specs.declared.Face.{Face}
+use Rattle.quantities.specs.declared.Face.the-variants.{Closed, Drained}
 use Rattle.rules.specs.declared.record.Frame.{Frame}
 use Rattle.rules.specs.declared.record.Layer.{Layer}
 use Rattle.rules.specs.declared.record.Progress.{Progress}

@@ -3,9 +3,9 @@ use Prim.Native.Nat.{ℕ}
 use lib.Dec.{ltb, eqb}
 use mathlib.Core.Bool.{true, false}
 use mathlib.Core.List.{List, _++_}
-use Rattle.rules.specs.declared.quantities.Face.{Face}
-use Rattle.rules.specs.declared.quantities.Face.the-variants.{Closed, Drained}
-use Rattle.rules.specs.declared.quantities.Head.{Head}
+use Rattle.quantities.specs.declared.Face.{Face}
+use Rattle.quantities.specs.declared.Face.the-variants.{Closed, Drained}
+use Rattle.quantities.specs.declared.Head.{Head}
 use Rattle.rules.specs.declared.record.CurveCounts.{CurveCounts}
 use Rattle.rules.specs.declared.record.Frame.{Frame}
 use Rattle.rules.specs.declared.record.Progress.{Progress}

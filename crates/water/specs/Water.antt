@@ -7,7 +7,7 @@ use mathlib.Core.Bool.{Bool, _&&_}
 use mathlib.Core.List.{List, _∷_}
 use Rattle.numbers.specs.Interval.{Within}
 use Rattle.laws.specs.Most.{mostFlow}
-use Rattle.rules.specs.Quantities.{waterLimits}
+use Rattle.quantities.specs.Quantities.{waterLimits}
 use Rattle.rules.specs.Step.{newHeight}
 
 -- the new water of element j: less what leaves by its upper face, and what enters by its lower, the lowest being the bottom

@@ -9,8 +9,8 @@ ghost use Rattle.water.specs.Water.{newWater, heightAfter, between, stay
 ghost use Rattle.numbers.specs.Arrays.{filled, everyIndex};
 ghost use Rattle.numbers.specs.Interval.{Within};
 ghost use Rattle.laws.specs.Bounds.{lowestWater, highestWater};
-ghost use Rattle.rules.specs.Quantities.{solidsLimits, voidLimits, waterLimits, elementLimits};
-use rules::quantities::Void;
+ghost use Rattle.quantities.specs.Quantities.{solidsLimits, voidLimits, waterLimits, elementLimits};
+use quantities::Void;
 
 // The water of an element less what leaves it and with what enters.
 pub fn new_water(water: u64, leaves: i64, enters: i64) -> i64

@@ -9,7 +9,7 @@ use Rattle.laws.specs.Most.{mostBurden}
 use Rattle.numbers.specs.Interval.{Within}
 use Rattle.numbers.proofs.Interval.{within-add, within-sub, within-le, within-pos, within-fits}
 use Rattle.numbers.proofs.Signed.{readBack, readUnsigned}
-use Rattle.rules.specs.Quantities.{stressLimits}
+use Rattle.quantities.specs.Quantities.{stressLimits}
 use Rattle.element.proofs.excess_pressure.Statement.{statement}
 use Rattle.element.proofs.excess_pressure.Tie as tie
 

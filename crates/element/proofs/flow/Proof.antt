@@ -10,7 +10,7 @@ use Rattle.numbers.specs.Interval.{Within}
 use Rattle.numbers.proofs.Interval.{within-mul, within-quot, within-le, within-pos, within-fits}
 use Rattle.numbers.specs.Rounding.{cut}
 use Rattle.numbers.proofs.Signed.{signed, readBack, readUnsigned}
-use Rattle.rules.specs.Quantities.{stepLimits}
+use Rattle.quantities.specs.Quantities.{stepLimits}
 use Rattle.element.proofs.flow.Statement.{statement}
 use Rattle.element.proofs.flow.Tie as tie
 

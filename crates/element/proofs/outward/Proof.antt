@@ -8,7 +8,7 @@ use Rattle.laws.specs.Faces.{Holds}
 use Rattle.numbers.specs.Interval.{Within}
 use Rattle.numbers.proofs.Interval.{within-sub, within-le, within-fits}
 use Rattle.numbers.proofs.Signed.{readBack}
-use Rattle.rules.specs.Quantities.{mostHeadPressure}
+use Rattle.quantities.specs.Quantities.{mostHeadPressure}
 use Rattle.rules.specs.Step.{outward}
 use Rattle.element.proofs.outward.Statement.{statement}
 use Rattle.element.proofs.outward.Tie as tie

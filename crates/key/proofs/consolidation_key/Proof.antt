@@ -17,7 +17,7 @@ use Rattle.result.proofs.ResultLaws.{number-is, buffer-is}
 use Rattle.rules.specs.Job.{countsOf, frameOf}
 use Rattle.rules.specs.Key.{runToResult, key}
 use Rattle.rules.specs.Opening.{openedRecord, opening}
-use Rattle.rules.specs.Quantities.{clockLimits, budgetLimits}
+use Rattle.quantities.specs.Quantities.{clockLimits, budgetLimits}
 use Rattle.rules.specs.Record.{soilOf, layerOf, recordOf, isLayer}
 use Rattle.numbers.specs.Sums.{sum}
 use Rattle.rules.specs.Result.{Returned, refusedResult}

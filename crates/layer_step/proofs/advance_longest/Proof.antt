@@ -6,7 +6,7 @@ use mathlib.Core.Path.{_≡_, sym, _∙_}
 use Rattle.laws.proofs.Longest.{greatest-most}
 use Rattle.layer_step.proofs.MovingAt.{none-taken, off-curve, on-curve}
 use Rattle.numbers.proofs.Signed.{readBack}
-use Rattle.rules.specs.Quantities.{stepLimits}
+use Rattle.quantities.specs.Quantities.{stepLimits}
 use Rattle.step_length.specs.Reach.{longestWithin}
 use Rattle.layer_step.proofs.advance_longest.Statement.{statement}
 use Rattle.layer_step.proofs.advance_longest.Tie as tie

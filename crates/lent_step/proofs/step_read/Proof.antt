@@ -22,17 +22,17 @@ use Rattle.element.specs.Elements.{Readable}
 use Rattle.layer_step.proofs.MovingAt.{keeps, moves-on, leaves-off, flows-on}
 use Rattle.layer_step.specs.Moving.{flowsIn, staysBetween, movedBy, movedIn, waterBy, waterIn}
 use Rattle.numbers.specs.Arrays.{zeros, overlaid}
-use Rattle.rules.specs.declared.quantities.Face.{Face}
+use Rattle.quantities.specs.declared.Face.{Face}
 use Rattle.numbers.specs.Interval.{Within}
 use Rattle.numbers.proofs.Interval.{within-add, within-sub, within-le, within-fits}
 use Rattle.numbers.specs.Lists.{firstOr, lastOr}
 use Rattle.numbers.proofs.Searches.{passed}
 use Rattle.numbers.proofs.Signed.{readBack}
 use Rattle.step_length.specs.Reach.{Limited, isTooLong}
-use Rattle.rules.proofs.Limits.{within-parts}
+use Rattle.quantities.proofs.Limits.{within-parts}
 use Rattle.rules.specs.Calls.{called}
 use Rattle.rules.specs.Layer.{State, readElements}
-use Rattle.rules.specs.Quantities.{stepLimits, clockLimits, waterLimits, outflowRate}
+use Rattle.quantities.specs.Quantities.{stepLimits, clockLimits, waterLimits, outflowRate}
 use Rattle.rules.specs.Record.{recordSite, recordState, progressOf, withState, withEvents, isLayer}
 use Rattle.rules.specs.Run.{stepTaken, afterEvent, afterEvents}
 use Rattle.rules.specs.Step.{upwardFlows, tooLong, stepped}

@@ -21,11 +21,11 @@ use Rattle.numbers.specs.Lists.{greatest}
 use Rattle.numbers.proofs.Signed.{readBack}
 use Rattle.rules.specs.Layer.{Site}
 use Rattle.rules.specs.Load.{loadAt, nextTime, withLoad}
-use Rattle.rules.specs.Quantities.{stepLimits, pressure}
+use Rattle.quantities.specs.Quantities.{stepLimits, pressure}
 use Rattle.rules.specs.Record.{soilOf, layerOf, recordOf, recordSite, recordState, isLayer}
 use Rattle.rules.specs.Run.{longestReach, longestStep}
 use Rattle.rules.specs.Step.{tooLong}
-use Rattle.rules.specs.declared.quantities.Pressure.{Pressure}
+use Rattle.quantities.specs.declared.Pressure.{Pressure}
 use Rattle.rules.specs.declared.record.Progress.{Progress}
 use Rattle.rules.specs.declared.record.Record.{Record}
 use Rattle.passes.specs.Passing as passing

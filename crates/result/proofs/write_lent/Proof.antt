@@ -11,8 +11,8 @@ use Rattle.lent.proofs.Standing.{site-is, state-is, counted, soil}
 use Rattle.lent.proofs.StepLaws.{on-soil-as}
 use Rattle.numbers.proofs.Signed.{readBack}
 use Rattle.result.proofs.ResultLaws.{gone, headed, result-stored}
-use Rattle.rules.proofs.Limits.{inside-signed}
-use Rattle.rules.specs.Quantities.{levelLimits}
+use Rattle.quantities.proofs.Limits.{inside-signed}
+use Rattle.quantities.specs.Quantities.{levelLimits}
 use Rattle.rules.specs.Record.{soilOf, layerOf, recordOf, isLayer}
 use Rattle.rules.specs.Result.{resultSize}
 use Rattle.rules.specs.declared.record.Record.{Record}

@@ -5,8 +5,8 @@ use mathlib.Core.Path.{_≡_, refl, sym, ap, _∙_}
 use native.Mathlib.Omega.{arith}
 use Rattle.lent.proofs.Standing.{counted, weighted, solid}
 use Rattle.numbers.specs.Arrays.{zeros}
-use Rattle.rules.proofs.Limits.{inside}
-use Rattle.rules.specs.Quantities.{clockLimits, budgetLimits}
+use Rattle.quantities.proofs.Limits.{inside}
+use Rattle.quantities.specs.Quantities.{clockLimits, budgetLimits}
 use Rattle.rules.specs.declared.record.Record.{Record}
 use Rattle.run.proofs.RunLaws.{ranTo, run-within}
 use Rattle.run.proofs.run_layer.Statement.{statement}

@@ -6,8 +6,8 @@ use mathlib.Core.Bool.{true, false}
 use mathlib.Core.Path.{_≡_, refl, sym, _∙_}
 use Rattle.lent.proofs.CallLaws.{in-numbers, not-layer}
 use Rattle.numbers.proofs.Searches.{passed}
-use Rattle.rules.proofs.Limits.{within-parts, clock-tells}
-use Rattle.rules.specs.Quantities.{within, clockLimits, budgetLimits}
+use Rattle.quantities.proofs.Limits.{within-parts, clock-tells}
+use Rattle.quantities.specs.Quantities.{within, clockLimits, budgetLimits}
 use Rattle.rules.specs.Record.{isLayer}
 use Rattle.rules.specs.declared.answers.Call.the-variants.{Run}
 use Rattle.rules.specs.declared.record.Record.{Record}

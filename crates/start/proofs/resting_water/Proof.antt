@@ -7,7 +7,7 @@ use mathlib.Core.Bool.{Bool, false}
 use mathlib.Core.Path.{_≡_, sym, ap, _∙_}
 use Rattle.numbers.proofs.Searches.{passed}
 use Rattle.rules.specs.Curve.{points}
-use Rattle.rules.specs.Quantities.{waterLimits}
+use Rattle.quantities.specs.Quantities.{waterLimits}
 use Rattle.rules.proofs.Sound.{Compressible, compressible}
 use Rattle.start.specs.Rest.{restingAnswer}
 use Rattle.start.proofs.AtRest.{restsAt, rests-between, none-below, rests-least, rests-nowhere}

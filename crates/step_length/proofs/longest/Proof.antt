@@ -7,7 +7,7 @@ use Rattle.laws.specs.Shorten.{shortened}
 use Rattle.element.specs.Elements.{elementsIn}
 use Rattle.step_length.specs.Reach.{Limited, longestWithin}
 use Rattle.step_length.proofs.ReachAt.{longest-is, from-bottom, at-inner, at-top}
-use Rattle.rules.specs.Quantities.{stressLimits, stepLimits}
+use Rattle.quantities.specs.Quantities.{stressLimits, stepLimits}
 use Rattle.rules.specs.Step.{contactsAbove}
 use native.Mathlib.Omega.{arith}
 use Rattle.step_length.proofs.longest.Statement.{statement}

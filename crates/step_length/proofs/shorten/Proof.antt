@@ -6,7 +6,7 @@ use mathlib.Core.Path.{_∙_}
 use Rattle.laws.specs.Most.{mostFaceResistance}
 use Rattle.laws.proofs.Shorten.{divided, undivided}
 use Rattle.numbers.specs.Rounding.{floor}
-use Rattle.rules.specs.Quantities.{stepLimits}
+use Rattle.quantities.specs.Quantities.{stepLimits}
 use Rattle.step_length.proofs.shorten.Statement.{statement}
 use Rattle.step_length.proofs.shorten.Tie as tie
 

@@ -5,7 +5,7 @@ use mathlib.Core.Path.{_≡_, refl, sym, ap, _∙_}
 use Rattle.numbers.proofs.Signed.{signed, readUnsigned}
 use Rattle.rules.specs.Curve.{points}
 use Rattle.rules.specs.Load.{loadAt}
-use Rattle.rules.specs.Quantities.{pressure}
+use Rattle.quantities.specs.Quantities.{pressure}
 use Rattle.table.proofs.Laws.{Tabled, tabled, load-here, load-later, load-last}
 use Rattle.table.proofs.load_at.Statement.{statement}
 use Rattle.table.proofs.load_at.Tie as tie

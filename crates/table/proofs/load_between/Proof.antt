@@ -10,7 +10,7 @@ use Rattle.numbers.specs.Rounding.{cut}
 use Rattle.numbers.proofs.Signed.{signed, readBack, readUnsigned}
 use Rattle.numbers.specs.Interval.{Within}
 use Rattle.numbers.proofs.Interval.{within-pos, within-le, within-add, within-mul, within-quot, within-fits}
-use Rattle.rules.specs.Quantities.{stressLimits, clockLimits}
+use Rattle.quantities.specs.Quantities.{stressLimits, clockLimits}
 use Rattle.table.proofs.Laws.{segmentLoad, segment-stress}
 use Rattle.table.proofs.load_between.Statement.{statement}
 use Rattle.table.proofs.load_between.Tie as tie

@@ -7,7 +7,7 @@ use mir.Val.{SFits, toZ}
 use Rattle.numbers.proofs.Signed.{one-sided, sub-parts, readBack, readUnsigned}
 use Rattle.numbers.specs.Interval.{Within}
 use Rattle.numbers.proofs.Interval.{intervals, within-fits}
-use Rattle.rules.specs.Quantities.{stressLimits}
+use Rattle.quantities.specs.Quantities.{stressLimits}
 use Rattle.table.proofs.load_change.Statement.{statement}
 use Rattle.table.proofs.load_change.Tie as tie
 

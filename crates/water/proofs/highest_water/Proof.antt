@@ -1,7 +1,7 @@
 use Prim.Native.Nat.{_+_, _*_, _≤_}
 use native.Mathlib.Nat.{mul-le-mul}
 use Rattle.laws.specs.Bounds.{highestWater}
-use Rattle.rules.specs.Quantities.{voidLimits, solidsLimits}
+use Rattle.quantities.specs.Quantities.{voidLimits, solidsLimits}
 use native.Mathlib.Omega.{arith}
 use borrow.Author.Needs.{needs}
 use Rattle.water.proofs.highest_water.Statement.{statement}

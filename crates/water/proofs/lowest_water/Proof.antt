@@ -1,7 +1,7 @@
 use Prim.Native.Nat.{_*_, _≤_}
 use native.Mathlib.Nat.{mul-le-mul}
 use Rattle.laws.specs.Bounds.{lowestWater}
-use Rattle.rules.specs.Quantities.{voidLimits, solidsLimits}
+use Rattle.quantities.specs.Quantities.{voidLimits, solidsLimits}
 use native.Mathlib.Omega.{arith}
 use Rattle.water.proofs.lowest_water.Statement.{statement}
 use Rattle.water.proofs.lowest_water.Tie as tie

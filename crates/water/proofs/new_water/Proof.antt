@@ -9,7 +9,7 @@ use Rattle.laws.specs.Most.{mostFlow}
 use Rattle.numbers.specs.Interval.{Within}
 use Rattle.numbers.proofs.Interval.{within-add, within-sub, within-le, within-pos, within-fits}
 use Rattle.numbers.proofs.Signed.{readBack, readUnsigned}
-use Rattle.rules.specs.Quantities.{waterLimits}
+use Rattle.quantities.specs.Quantities.{waterLimits}
 use Rattle.water.proofs.new_water.Statement.{statement}
 use Rattle.water.proofs.new_water.Tie as tie
 

@@ -8,10 +8,10 @@ use Rattle.acceptance.proofs.FieldLaws.{others, others-by, fields-answe
 use Rattle.acceptance.specs.Causes.{fieldsAnswer}
 use Rattle.acceptance.specs.Lent.{descriptionOf}
 use Rattle.acceptance.specs.declared.fields.Fields.the-variants.{Within, Outside}
-use Rattle.rules.proofs.Limits.{HeadTells, head-tells, clock-tells}
+use Rattle.quantities.proofs.Limits.{HeadTells, head-tells, clock-tells}
 use Rattle.rules.specs.Job.{Description}
-use Rattle.rules.specs.Quantities.{within, clockLimits, head}
-use Rattle.rules.specs.declared.quantities.TestedHead.{TestedHead}
+use Rattle.quantities.specs.Quantities.{within, clockLimits, head}
+use Rattle.quantities.specs.declared.TestedHead.{TestedHead}
 use Rattle.acceptance.proofs.fields.check_fields.Statement.{statement}
 use Rattle.acceptance.proofs.fields.check_fields.Tie as tie
 

@@ -9,9 +9,9 @@ use mathlib.Core.Path.{_≡_, refl, sym, ap, _∙_}
 use Rattle.lent.proofs.CallLaws.{in-numbers, not-layer, on-layer, refused-on-layer, load-outside, load-set, own-water}
 use Rattle.lent.specs.Progress.{loaded}
 use Rattle.lent.proofs.Standing.{counted}
-use Rattle.rules.proofs.Limits.{pressure-tells}
+use Rattle.quantities.proofs.Limits.{pressure-tells}
 use Rattle.rules.specs.Load.{withLoad}
-use Rattle.rules.specs.Quantities.{pressure}
+use Rattle.quantities.specs.Quantities.{pressure}
 use Rattle.rules.specs.Record.{recordState, withParts, withEvents, isLayer}
 use Rattle.rules.specs.Run.{loadSet, afterEvent, afterEvents}
 use Rattle.rules.specs.declared.answers.Answer.the-variants.{Done}

@@ -8,8 +8,8 @@ use Rattle.lent.proofs.CallLaws.{in-numbers, not-layer, refused-on-layer}
 use Rattle.lent.proofs.Standing.{state-is}
 use Rattle.lent.proofs.StepLaws.{step-length-outside, clock-outside}
 use Rattle.numbers.proofs.Searches.{passed}
-use Rattle.rules.proofs.Limits.{within-parts, clock-tells}
-use Rattle.rules.specs.Quantities.{within, stepLimits}
+use Rattle.quantities.proofs.Limits.{within-parts, clock-tells}
+use Rattle.quantities.specs.Quantities.{within, stepLimits}
 use Rattle.rules.specs.Record.{recordState, isLayer}
 use Rattle.rules.specs.declared.answers.Call.the-variants.{Step}
 use Rattle.rules.specs.declared.answers.Refusal.the-variants.{StepOutside}

@@ -4,7 +4,7 @@ use mathlib.Core.Path.{_≡_, ap}
 use Rattle.numbers.specs.Interpolation.{distance, share}
 use Rattle.numbers.proofs.Shares.{interpolates}
 use Rattle.rules.specs.Curve.{interpolated}
-use Rattle.rules.specs.Quantities.{stressLimits, voidLimits}
+use Rattle.quantities.specs.Quantities.{stressLimits, voidLimits}
 use native.Mathlib.Omega.{arith}
 use borrow.Author.Needs.{needs}
 use Rattle.curves.proofs.reading.interpolated.Statement.{statement}

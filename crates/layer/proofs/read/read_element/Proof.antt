@@ -5,7 +5,7 @@ use Rattle.numbers.specs.Rounding.{ceil}
 use Rattle.numbers.specs.Interval.{Within}
 use Rattle.numbers.proofs.Interval.{intervals}
 use Rattle.numbers.proofs.Signed.{one-sided}
-use Rattle.rules.specs.Quantities.{stressLimits, waterLimits, pressure}
+use Rattle.quantities.specs.Quantities.{stressLimits, waterLimits, pressure}
 use Rattle.rules.specs.Curve.{points, curveAt, valueOf}
 use Rattle.rules.specs.Layer.{skeletonOf, effectiveStress, hydraulicConductivity, excessPressure, resistance}
 use Rattle.curves.proofs.SmoothCurves.{conductivity-smooth}

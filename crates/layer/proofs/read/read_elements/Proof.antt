@@ -7,7 +7,7 @@ use Rattle.numbers.specs.Arrays.{filled}
 use Rattle.numbers.proofs.Filled.{filled-zero, filled-store, filled-done}
 use Rattle.numbers.proofs.Signed.{readBack}
 use Rattle.rules.specs.Record.{soilOf}
-use Rattle.rules.specs.declared.quantities.Pressure.{Pressure}
+use Rattle.quantities.specs.declared.Pressure.{Pressure}
 use native.Mathlib.Omega.{arith}
 use Rattle.layer.proofs.read.read_elements.Statement.{statement}
 use Rattle.layer.proofs.read.read_elements.Tie as tie

@@ -4,9 +4,9 @@ use borrow.Author.Tests.{not-true, not-false}
 use mathlib.Core.Bool.{true}
 use mathlib.Core.Path.{_≡_, sym, ap, _∙_}
 use Rattle.numbers.proofs.Searches.{passed}
-use Rattle.rules.proofs.Limits.{within-parts, clock-tells}
-use Rattle.rules.specs.Quantities.{within, withinℤ, stressLimits, clockLimits}
-use Rattle.rules.specs.declared.quantities.Clock.{Clock}
+use Rattle.quantities.proofs.Limits.{within-parts, clock-tells}
+use Rattle.quantities.specs.Quantities.{within, withinℤ, stressLimits, clockLimits}
+use Rattle.quantities.specs.declared.Clock.{Clock}
 use Rattle.rules.specs.declared.record.Progress.{Progress}
 use Rattle.layer_test.proofs.record.progress_sound.Statement.{statement}
 use Rattle.layer_test.proofs.record.progress_sound.Tie as tie

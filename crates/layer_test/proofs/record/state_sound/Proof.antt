@@ -14,9 +14,9 @@ use Rattle.numbers.specs.Interval.{Within}
 use Rattle.numbers.proofs.Interval.{within-le}
 use Rattle.numbers.proofs.Searches.{passed, seven, is-true}
 use Rattle.numbers.specs.Sums.{sum}
-use Rattle.rules.proofs.Limits.{within-parts}
-use Rattle.rules.specs.Quantities.{within, withinℤ, stressLimits, clockLimits, startingWaterLimits, outflowRate}
-use Rattle.rules.specs.Record.{recordSite, recordState, outflowWithin, stateSound}
+use Rattle.quantities.proofs.Limits.{within-parts}
+use Rattle.quantities.specs.Quantities.{within, withinℤ, stressLimits, clockLimits, startingWaterLimits, outflowRate, outflowWithin}
+use Rattle.rules.specs.Record.{recordSite, recordState, stateSound}
 use Rattle.rules.specs.Step.{allOnCurve}
 use Rattle.rules.specs.declared.record.Progress.{Progress}
 use Rattle.rules.specs.declared.record.Record.{Record}

@@ -4,7 +4,7 @@ use mathlib.Core.Path.{_≡_, sym, _∙_}
 use Rattle.points.specs.Checks.{pointWithin, follows}
 use Rattle.numbers.specs.Lists.{all}
 use Rattle.rules.specs.Curve.{points, rising, conductivitySound}
-use Rattle.rules.specs.Quantities.{voidLimits, conductivityLimits}
+use Rattle.quantities.specs.Quantities.{voidLimits, conductivityLimits}
 use borrow.Author.Needs.{needs}
 use Rattle.points.proofs.checks.conductivity_sound.Statement.{statement}
 use Rattle.points.proofs.checks.conductivity_sound.Tie as tie

@@ -5,7 +5,7 @@ use mathlib.Core.Path.{_≡_, refl, sym, _∙_}
 use Rattle.numbers.specs.Lists.{all}
 use Rattle.rules.specs.Curve.{points}
 use Rattle.rules.proofs.Points.{all-fails, all-goes, all-ends}
-use Rattle.rules.specs.Quantities.{limitsOf}
+use Rattle.quantities.specs.Quantities.{limitsOf}
 use Rattle.points.specs.Checks.{pointWithin}
 use native.Mathlib.Omega.{arith}
 use borrow.Author.Needs.{needs}

@@ -10,7 +10,7 @@ use Rattle.numbers.specs.Interval.{Within}
 use Rattle.numbers.proofs.Interval.{within-sub, within-le, within-pos, within-fits}
 use Rattle.numbers.proofs.Searches.{same-test}
 use Rattle.numbers.proofs.Signed.{signed, readBack, add-parts, sub-parts}
-use Rattle.rules.specs.Quantities.{startingWaterLimits}
+use Rattle.quantities.specs.Quantities.{startingWaterLimits}
 use borrow.Author.Needs.{needs}
 use Rattle.record_parts.proofs.balance.balances.Statement.{statement}
 use Rattle.record_parts.proofs.balance.balances.Tie as tie

@@ -6,7 +6,7 @@ use mir.Syntax.{w64}
 use mir.Val.{SFits, toZ}
 use Rattle.numbers.proofs.Interval.{within-sub, within-pos, within-le, within-fits}
 use Rattle.numbers.proofs.Signed.{readBack, readUnsigned}
-use Rattle.rules.specs.Quantities.{startingWaterLimits}
+use Rattle.quantities.specs.Quantities.{startingWaterLimits}
 use Prim.Native.Nat.{_*_}
 use Rattle.record_parts.proofs.balance.settlement.Statement.{statement}
 use Rattle.record_parts.proofs.balance.settlement.Tie as tie

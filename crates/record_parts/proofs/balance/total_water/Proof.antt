@@ -7,7 +7,7 @@ use Rattle.numbers.specs.Arrays.{firstPlaces}
 use Rattle.numbers.proofs.Filled.{first-length, first-at}
 use Rattle.numbers.specs.Sums.{sum}
 use Rattle.numbers.proofs.Sums.{sum-suc}
-use Rattle.rules.specs.Quantities.{waterLimits}
+use Rattle.quantities.specs.Quantities.{waterLimits}
 use Rattle.record_parts.proofs.balance.total_water.Statement.{statement}
 use Rattle.record_parts.proofs.balance.total_water.Tie as tie
 

@@ -5,7 +5,7 @@ use Rattle.numbers.specs.Interval.{Within}
 use Rattle.numbers.proofs.Interval.{intervals, within-fits}
 use Rattle.numbers.proofs.Signed.{readBack, one-sided, sub-parts}
 use Rattle.rules.specs.Layer.{bottomPressure}
-use Rattle.rules.specs.Quantities.{levelLimits}
+use Rattle.quantities.specs.Quantities.{levelLimits}
 use Rattle.record_parts.proofs.faces.bottom_pressure.Statement.{statement}
 use Rattle.record_parts.proofs.faces.bottom_pressure.Tie as tie
 

@@ -8,7 +8,7 @@ use mathlib.Core.Path.{_≡_, sym, _∙_}
 use Rattle.numbers.specs.Arrays.{everyIndex, firstPlaces}
 use Rattle.numbers.proofs.Indices.{restPasses, all-rest, index-fails, index-goes, index-ends, all-tabulate}
 use Rattle.numbers.specs.Lists.{all}
-use Rattle.rules.specs.Quantities.{Limits, within, limitsOf}
+use Rattle.quantities.specs.Quantities.{Limits, within, limitsOf}
 use Rattle.record_parts.proofs.sizes.all_within.Statement.{statement}
 use Rattle.record_parts.proofs.sizes.all_within.Tie as tie
 

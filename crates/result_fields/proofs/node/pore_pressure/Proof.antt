@@ -6,9 +6,9 @@ use Rattle.numbers.specs.Interval.{Within}
 use Rattle.numbers.proofs.Interval.{within-fits}
 use Rattle.numbers.proofs.Signed.{readBack, readUnsigned}
 use Rattle.result_fields.proofs.Ranges.{level-within, head-within, pressure-within, pore-within}
-use Rattle.rules.specs.Quantities.{head, levelLimits, pressureOf}
+use Rattle.quantities.specs.Quantities.{head, levelLimits, pressureOf}
 use Rattle.rules.specs.Result.{poreOver}
-use Rattle.rules.specs.declared.quantities.Pressure.{Pressure}
+use Rattle.quantities.specs.declared.Pressure.{Pressure}
 use native.Mathlib.Omega.{arith}
 use borrow.Author.Needs.{needs}
 use Rattle.result_fields.proofs.node.pore_pressure.Statement.{statement}

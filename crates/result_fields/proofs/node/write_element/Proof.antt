@@ -12,9 +12,9 @@ use Rattle.result_fields.proofs.Elements.{element-stored}
 use Rattle.result_fields.proofs.Ranges.{water-most, stress-most, excess-within, node-low, pore-within}
 use Rattle.rules.specs.Curve.{Point, points, valueOf}
 use Rattle.rules.specs.Layer.{skeletonOf, effectiveStress, excessUnder, excessPressure}
-use Rattle.rules.specs.Quantities.{levelLimits, stressLimits, waterLimits}
+use Rattle.quantities.specs.Quantities.{levelLimits, stressLimits, waterLimits}
 use Rattle.rules.specs.Result.{nodeHeight, poreOver, porePressure}
-use Rattle.rules.specs.declared.quantities.Pressure.{Pressure}
+use Rattle.quantities.specs.declared.Pressure.{Pressure}
 use borrow.Author.Needs.{needs}
 use Rattle.result_fields.proofs.node.write_element.Statement.{statement}
 use Rattle.result_fields.proofs.node.write_element.Tie as tie

@@ -9,7 +9,7 @@ use Rattle.result_fields.specs.Elements.{mostHeight}
 use Rattle.result_fields.proofs.Elements.{heightOf, height-more, elements-stored, elements-done}
 use Rattle.result_fields.proofs.Ranges.{water-most}
 use Rattle.rules.specs.Curve.{points}
-use Rattle.rules.specs.Quantities.{solidsLimits, waterLimits}
+use Rattle.quantities.specs.Quantities.{solidsLimits, waterLimits}
 use Rattle.rules.specs.Result.{elementsBytes}
 use Rattle.rules.specs.Layer.{skeletonOf}
 use native.Mathlib.Omega.{arith}

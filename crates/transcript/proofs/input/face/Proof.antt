@@ -3,8 +3,8 @@ use borrow.Author.Tests.{eq-eqb, ne-eqb}
 use lib.IntN.{ℤ}
 use mathlib.Core.Path.{ap}
 use Rattle.numbers.proofs.Signed.{readBack}
-use Rattle.rules.specs.Quantities.{pressure}
-use Rattle.rules.specs.declared.quantities.Face.the-variants.{Drained}
+use Rattle.quantities.specs.Quantities.{pressure}
+use Rattle.quantities.specs.declared.Face.the-variants.{Drained}
 use Rattle.transcript.specs.Input.{faceIn}
 use Rattle.transcript.proofs.input.face.Statement.{statement}
 use Rattle.transcript.proofs.input.face.Tie as tie

@@ -1,0 +1,2 @@
+-- What follows from a quantity's limits.
+pub mod Limits
