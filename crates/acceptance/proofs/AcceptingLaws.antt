@@ -6,7 +6,7 @@ use mathlib.Core.List.{List}
 use mathlib.Core.Option.{Option, none, some}
 use mathlib.Core.Path.{_≡_, refl}
 use Rattle.acceptance.specs.Accepting.{waterStarted, acceptedBurden}
-use Rattle.layer.specs.Weights.{burdenAt}
+use Rattle.weights.specs.Weights.{burdenAt}
 use Rattle.numbers.specs.Arrays.{filled}
 use Rattle.numbers.specs.Sums.{sum}
 use Rattle.rules.specs.Job.{Description, describedCauses, frameOf, headerSound, jobSite}

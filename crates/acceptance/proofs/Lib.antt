@@ -1,6 +1,4 @@
--- Laws of the tests of a description, of its water and of its layer, and of what accepting it leaves.
-pub mod FieldLaws
-pub mod Checking
+-- Laws of a description's water and of its layer, and of what accepting it leaves.
 pub mod Starting
 pub mod SoundDescription
 pub mod AcceptingLaws

@@ -8,10 +8,10 @@ use mathlib.Core.Bool.{Bool, true, false, _&&_, _||_}
 use mathlib.Core.List.{List}
 use mathlib.Core.Option.{Option, none, some}
 use mathlib.Core.Path.{_≡_, refl, sym, ap, _∙_}
-use Rattle.acceptance.proofs.Checking.{none-tests}
+use Rattle.description.proofs.Checking.{none-tests}
 use Rattle.acceptance.specs.Accepting.{waterStarted}
 use Rattle.acceptance.proofs.AcceptingLaws.{Accepts, burdensIn, header-within, off-accepts, start-accepts}
-use Rattle.acceptance.specs.Lent.{progressAt}
+use Rattle.acceptance.specs.Accepting.{progressAt}
 use Rattle.laws.specs.Every.{Every}
 use Rattle.laws.proofs.Every.{every-at, every-tabulate}
 use Rattle.laws.proofs.Excess.{burdens-most}
@@ -19,7 +19,7 @@ use Rattle.laws.proofs.Lengths.{burdens-length}
 use Rattle.laws.specs.Most.{mostBurden, sharpBurden}
 use Rattle.laws.proofs.Sizes.{SoundSizes, sound-sizes}
 use Rattle.laws.proofs.SoundHeader.{SoundHeader, kept-header}
-use Rattle.layer.specs.Weights.{burdenAt}
+use Rattle.weights.specs.Weights.{burdenAt}
 use Rattle.numbers.specs.Arrays.{firstPlaces}
 use Rattle.numbers.proofs.Filled.{first-length, getD-filled}
 use Rattle.numbers.specs.Lists.{all, firstOr}

@@ -1,12 +1,15 @@
--- What accepting a description leaves in its arrays.
+-- What accepting a description leaves in its arrays, and the progress of a layer just opened.
 use Prim.Native.Nat.{ℕ}
-use mathlib.Core.List.{List}
+use lib.IntN.{pos}
+use mathlib.Core.List.{List, []}
 use mathlib.Core.Option.{Option, none, some}
-use Rattle.layer.specs.Weights.{burdenAt}
+use Rattle.weights.specs.Weights.{burdenAt}
 use Rattle.numbers.specs.Arrays.{overlaid, filled}
 use Rattle.rules.specs.Job.{Description}
 use Rattle.rules.specs.Opening.{layerCauses}
+use Rattle.rules.specs.Record.{progressOf}
 use Rattle.rules.specs.Refusals.{firstCause}
+use Rattle.rules.specs.declared.record.Progress.{Progress}
 
 -- an array with the water of a start, or as it was where there is none
 unfoldable pub waterStarted : Option (List ℕ) → (before : List ℕ) → List ℕ
@@ -22,3 +25,7 @@ acceptedBurden d before =
       | some cause ↦ before
       | none ↦ filled before d.header.elements (burdenAt d.header.gravity d.header.elements d.solids)
     ]
+
+-- the progress of a layer just opened under a load
+abbrev pub progressAt : (load : ℕ) → Progress
+progressAt load = progressOf (record { water = []; load = pos load; clock = 0; topOutflow = pos 0; bottomOutflow = pos 0 })

@@ -2,11 +2,11 @@
 ghost use lib.ListN.{length};
 ghost use mathlib.Core.Path.{_≡_};
 ghost use Rattle.acceptance.specs.Accepting.{acceptedBurden};
-ghost use Rattle.acceptance.specs.Lent.{descriptionOf};
+ghost use Rattle.description.specs.Lent.{descriptionOf};
 ghost use Rattle.rules.specs.Job.{Description};
 ghost use Rattle.rules.specs.Opening.{accepted, acceptanceNumber, acceptedNumber, acceptedWater};
-use crate::causes::Checked;
-use layer::weights;
+use description::causes;
+use description::causes::Checked;
 use record_parts::balance;
 use record_parts::form;
 use rules::answers::Acceptance;
@@ -14,8 +14,6 @@ use rules::answers::Refusal;
 use rules::job::Header;
 use rules::record::Skeleton;
 
-pub mod causes;
-pub mod fields;
 pub mod record;
 pub mod starts;
 

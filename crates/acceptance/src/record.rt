@@ -2,7 +2,7 @@
 ghost use lib.IntN.{pos};
 ghost use mathlib.Core.Path.{_≡_};
 ghost use Prim.Native.Nat.{_≤_};
-ghost use Rattle.acceptance.specs.Lent.{progressAt};
+ghost use Rattle.acceptance.specs.Accepting.{progressAt};
 ghost use Rattle.rules.specs.Job.{frameOf, numberedFace};
 ghost use Rattle.quantities.specs.Quantities.{levelLimits, stressLimits, head};
 use quantities::Clock;

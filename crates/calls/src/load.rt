@@ -16,7 +16,7 @@ pub fn set_load(r: Record, load: u64) -> Answered
     ensures { λ a. ⌜ a ≡ called r (Load load) ⌝ }
     ensures { λ a. ⌜ answerNumbers (a .answer) ≡ calledNumbers r (Load load) ⌝ }
 {
-    if !layer_test::record::is_layer(r) {
+    if !layer_test::is_layer(r) {
         return state::refused(r, Refusal::NoLayer);
     }
     let layer = r.layer;

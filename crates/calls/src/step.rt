@@ -52,7 +52,7 @@ pub fn take_step(r: Record, t: u64) -> Answered
     ensures { λ a. ⌜ a ≡ called r (Step t) ⌝ }
     ensures { λ a. ⌜ answerNumbers (a .answer) ≡ calledNumbers r (Step t) ⌝ }
 {
-    if !layer_test::record::is_layer(r) {
+    if !layer_test::is_layer(r) {
         return state::refused(r, Refusal::NoLayer);
     }
     if !Seconds::within(t) {

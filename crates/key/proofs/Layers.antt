@@ -6,7 +6,7 @@ use mathlib.Core.Path.{_≡_, refl}
 use Rattle.claims.proofs.Events.{run-accepted}
 use Rattle.claims.proofs.Stands.{Stands, site-sound, stands-layer, stands-after}
 use Rattle.lent.proofs.Standing.{state-is}
-use Rattle.passes.proofs.Reached.{fixed, kept}
+use Rattle.pass.proofs.Reached.{fixed, kept}
 use Rattle.rules.specs.Calls.{endedRun}
 use Rattle.quantities.specs.Quantities.{clockLimits}
 use Rattle.rules.specs.Record.{recordSite, recordState, withState, withEvents, isLayer}

@@ -24,7 +24,7 @@ use Rattle.rules.specs.Step.{Contact, contact, innerResistance, outerResistance
 use Rattle.quantities.specs.declared.Face.{Face}
 use Rattle.quantities.specs.declared.Face.the-variants.{Closed, Drained}
 use Rattle.element.proofs.FlowsAt.{outward-same}
-use Rattle.layer.proofs.WeightsAt.{burden-at}
+use Rattle.weights.proofs.WeightsAt.{burden-at}
 
 -- ---- lists
 

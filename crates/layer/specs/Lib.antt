@@ -2,4 +2,3 @@
 pub mod Held
 pub mod Segments
 pub mod Soil
-pub mod Weights

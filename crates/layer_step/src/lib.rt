@@ -15,7 +15,6 @@ ghost use Rattle.rules.specs.Layer as layer;
 ghost use Rattle.quantities.specs.Quantities.{stepLimits, stressLimits, waterLimits, solidsLimits, elementLimits, curveLimits};
 ghost use Rattle.step_length.specs.Reach.{Limited, longestWithin};
 use curves::steep;
-use layer::flows;
 use quantities::Face;
 use rules::answers::Stop;
 use rules::record::Skeleton;

@@ -16,7 +16,7 @@ use Rattle.laws.proofs.Lengths.{burdens-length}
 use Rattle.laws.specs.Most.{sharpBurden, mostBurden}
 use Rattle.layer.proofs.StepAt.{map-tabulate, on-curve-in}
 use Rattle.layer.specs.Soil.{SoilSound, OnSoil}
-use Rattle.layer.specs.Weights.{burdenAt}
+use Rattle.weights.specs.Weights.{burdenAt}
 use Rattle.lent.specs.Burdens.{burdensIn}
 use Rattle.numbers.specs.Arrays.{tabulate, zeros, firstPlaces}
 use Rattle.numbers.proofs.Filled.{getD-filled, first-length}

@@ -1,7 +1,7 @@
 -- The burdens of a layer in an array.
 use Prim.Native.Nat.{ℕ}
 use mathlib.Core.List.{List}
-use Rattle.layer.specs.Weights.{burdenAt}
+use Rattle.weights.specs.Weights.{burdenAt}
 use Rattle.numbers.specs.Arrays.{zeros, filled}
 use Rattle.rules.specs.declared.record.Frame.{Frame}
 

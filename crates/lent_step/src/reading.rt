@@ -7,8 +7,6 @@ ghost use Rattle.layer.specs.Held.{Held, heldOf, excessAt, resistanceAt, Stands
 ghost use Rattle.numbers.specs.Arrays.{filled};
 ghost use Rattle.quantities.specs.Quantities.{gravityLimits, elementLimits};
 ghost use Rattle.rules.specs.Record.{soilOf};
-use layer::read;
-use layer::weights;
 use quantities::Pressure;
 use rules::record::CurveCounts;
 use rules::record::Frame;
@@ -41,7 +39,7 @@ pub fn read_layer<'a>(
     weights::burdens(elements, frame.gravity, solids, &mut burden);
     let mut stress_segment = [0usize; 128];
     let mut conductivity_segment = [0usize; 128];
-    read::read_elements(
+    layer::read_elements(
         elements,
         load,
         counts,

@@ -6,13 +6,13 @@ use mathlib.Core.Option.{Option, none, some}
 use mathlib.Core.Path.{_≡_, refl, sym, ap, _∙_}
 use Rattle.acceptance.specs.Accepting.{waterStarted, acceptedBurden}
 use Rattle.acceptance.proofs.AcceptingLaws.{accepted-none, cause-accepts, header-within, off-accepts, start-accepts}
-use Rattle.acceptance.specs.Lent.{descriptionOf}
+use Rattle.description.specs.Lent.{descriptionOf}
 use Rattle.job.specs.Framing.{framing}
 use Rattle.job.proofs.FramingLaws.{framed-header, framed-kept, framed-rest, unframed-first}
 use Rattle.job.specs.Pairs.{Blank, Pairs}
 use Rattle.job.specs.declared.framing.Framed.{Framed}
 use Rattle.job.specs.declared.framing.Framed.the-variants as framed
-use Rattle.layer.specs.Weights.{burdenAt}
+use Rattle.weights.specs.Weights.{burdenAt}
 use Rattle.numbers.specs.Arrays.{filled}
 use Rattle.opening.specs.Opened.{openedBy, openedJob, leftDescription, leftBurden}
 use Rattle.opening.specs.declared.Opened.{Opened}

@@ -4,7 +4,7 @@ use lib.ListN.{length}
 use mathlib.Core.Bool.{true}
 use mathlib.Core.List.{List}
 use mathlib.Core.Path.{_≡_, _∙_}
-use Rattle.acceptance.specs.Lent.{descriptionOf}
+use Rattle.description.specs.Lent.{descriptionOf}
 use Rattle.job.specs.Pairs.{Pairs}
 use Rattle.laws.proofs.SoundHeader.{kept-header}
 use Rattle.numbers.specs.Arrays.{zeros}

@@ -2,7 +2,7 @@
 use Prim.Native.Nat.{ℕ}
 use mathlib.Core.List.{List}
 use Rattle.acceptance.specs.Accepting.{acceptedBurden}
-use Rattle.acceptance.specs.Lent.{descriptionOf}
+use Rattle.description.specs.Lent.{descriptionOf}
 use Rattle.job.specs.Framing.{framing}
 use Rattle.job.specs.declared.framing.Framed.the-variants as framed
 use Rattle.numbers.specs.Arrays.{zeros}

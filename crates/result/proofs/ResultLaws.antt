@@ -12,15 +12,15 @@ use mathlib.Core.Path.{_≡_, refl, sym, ap, _∙_}
 use Rattle.claims.proofs.After.{height-parts}
 use Rattle.encoding.proofs.Stores.{sets-then, sets-front}
 use Rattle.laws.proofs.Lengths.{burdens-length}
-use Rattle.layer.specs.Weights.{burdenAt}
+use Rattle.weights.specs.Weights.{burdenAt}
 use Rattle.lent.specs.Burdens.{burdensIn}
 use Rattle.numbers.specs.Arrays.{zeros, firstPlaces, overlaid}
 use Rattle.numbers.proofs.Filled.{tabulated, getD-filled, first-length}
 use Rattle.numbers.specs.Integers.{up}
 use Rattle.numbers.proofs.Signed.{signed, sub-parts}
 use Rattle.numbers.specs.Sums.{sum}
-use Rattle.result_fields.proofs.Elements.{elements-length}
-use Rattle.result_fields.proofs.HeadLaws.{length-head}
+use Rattle.result_elements.proofs.Elements.{elements-length}
+use Rattle.result_head.proofs.HeadLaws.{length-head}
 use Rattle.rules.specs.Curve.{points}
 use Rattle.rules.specs.Layer.{skeletonOf, burdens}
 use Rattle.rules.specs.Record.{recordSite, recordState, isLayer}

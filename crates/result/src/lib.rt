@@ -10,10 +10,7 @@ ghost use Rattle.rules.specs.Record.{soilOf, layerOf, recordOf, isLayer};
 ghost use Rattle.rules.specs.Refusals.{refusalNumber};
 ghost use Rattle.rules.specs.Result.{resultBytes, resultSize, result};
 ghost use Rattle.rules.specs.declared.record.Record.{Record};
-use layer::weights;
 use record_parts::balance;
-use result_fields::head;
-use result_fields::node;
 use rules::answers::Ended;
 use rules::answers::Refusal;
 use rules::answers::Stop;
@@ -68,8 +65,8 @@ pub fn write_lent<'a>(
         frame.starting_water,
         balance::total_water(elements, water),
     );
-    head::write_head(out, elements, ended, settlement);
-    node::write_elements(
+    result_head::write_head(out, elements, ended, settlement);
+    result_elements::write_elements(
         elements,
         load,
         top_level,
@@ -120,7 +117,7 @@ pub fn write_result(r: Record, stop: Stop, steps: u64, out: &mut [u8]) -> u32
     ensures { λ number. ⌜ number ≡ (result r stop steps (now (out .entry))) .number ⌝ }
     ensures { λ _. ⌜ now (out .exit) ≡ (result r stop steps (now (out .entry))) .buffer ⌝ }
 {
-    if !layer_test::record::is_layer(r) {
+    if !layer_test::is_layer(r) {
         return refused(Refusal::NoLayer);
     }
     if out.len() < result_size(r.layer.frame.elements) {

@@ -10,7 +10,6 @@ ghost use Rattle.rules.specs.Record.{soilOf, layerOf, recordOf, withParts, isLa
 ghost use Rattle.rules.specs.declared.answers.Call.the-variants.{Run};
 ghost use Rattle.rules.specs.declared.record.Record.{Record};
 ghost use Rattle.lent.specs.Burdens.{burdensIn};
-use layer::weights;
 use lent::state;
 use quantities::Budget;
 use quantities::Clock;
@@ -132,7 +131,7 @@ pub fn take_run(r: Record, end: u64, budget: u64) -> Answered
     ensures { λ a. ⌜ a ≡ called r (Run end budget) ⌝ }
     ensures { λ a. ⌜ answerNumbers (a .answer) ≡ calledNumbers r (Run end budget) ⌝ }
 {
-    if !layer_test::record::is_layer(r) {
+    if !layer_test::is_layer(r) {
         return state::refused(r, Refusal::NoLayer);
     }
     let clock = r.layer.progress.clock;

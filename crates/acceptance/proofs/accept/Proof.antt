@@ -6,11 +6,12 @@ use mathlib.Core.Bool.{true, false}
 use mathlib.Core.List.{List}
 use mathlib.Core.Option.{none}
 use mathlib.Core.Path.{_≡_, sym, ap, _∙_}
-use Rattle.acceptance.proofs.Checking.{CheckedTells, checked-tells}
+use Rattle.description.proofs.Checking.{CheckedTells, checked-tells}
 use Rattle.acceptance.proofs.SoundDescription as sound
 use Rattle.acceptance.proofs.AcceptingLaws.{Accepts, burdensIn, cause-accepts, header-outside, header-within}
-use Rattle.acceptance.specs.Lent.{descriptionOf, progressAt}
-use Rattle.acceptance.specs.declared.causes.Checked.the-variants.{Sound}
+use Rattle.description.specs.Lent.{descriptionOf}
+use Rattle.acceptance.specs.Accepting.{progressAt}
+use Rattle.description.specs.declared.causes.Checked.the-variants.{Sound}
 use Rattle.numbers.specs.Arrays.{firstPlaces}
 use Rattle.numbers.specs.Sums.{sum}
 use Rattle.rules.specs.Job.{Description, describedCauses, frameOf, headerSound}

@@ -4,7 +4,7 @@ use lib.ListN.{length}
 use mathlib.Core.List.{List}
 use mathlib.Core.Path.{_≡_, sym, ap, _∙_}
 use Rattle.acceptance.specs.Accepting.{acceptedBurden}
-use Rattle.acceptance.specs.Lent.{descriptionOf}
+use Rattle.description.specs.Lent.{descriptionOf}
 use Rattle.job.specs.Framing.{framing}
 use Rattle.job.proofs.FramingLaws.{framed-header, framed-kept, framed-length}
 use Rattle.job.specs.Pairs.{Pairs}

@@ -19,10 +19,10 @@ use Rattle.rules.specs.Record.{soilOf, layerOf, recordOf, withParts, isLayer}
 use Rattle.rules.specs.declared.answers.Stop.{Stop}
 use Rattle.rules.specs.declared.record.Progress.{Progress}
 use Rattle.rules.specs.declared.record.Record.{Record}
-use Rattle.passes.specs.Passing.{underTable, longest, passed, flowsTurned}
-use Rattle.passes.proofs.OnePass as law
-use Rattle.passes.proofs.OnePass.{ending, flows-long, as-long}
-use Rattle.passes.proofs.Reached.{Reached, begins, stands}
+use Rattle.pass.specs.Passing.{underTable, longest, passed, flowsTurned}
+use Rattle.pass.proofs.OnePass as law
+use Rattle.pass.proofs.OnePass.{ending, flows-long, as-long}
+use Rattle.pass.proofs.Reached.{Reached, begins, stands}
 use Rattle.passes.proofs.passes.Statement.{statement}
 use Rattle.passes.proofs.passes.Tie as tie
 

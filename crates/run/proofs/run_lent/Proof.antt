@@ -8,9 +8,9 @@ use Rattle.lent.proofs.Standing.{counted, solid, soil}
 use Rattle.numbers.specs.Arrays.{zeros}
 use Rattle.rules.specs.Record.{soilOf, layerOf, recordOf, isLayer}
 use Rattle.rules.specs.declared.record.Record.{Record}
-use Rattle.passes.proofs.OnePass as law
-use Rattle.passes.proofs.OnePass.{ending}
-use Rattle.passes.proofs.Reached.{Reached, begins}
+use Rattle.pass.proofs.OnePass as law
+use Rattle.pass.proofs.OnePass.{ending}
+use Rattle.pass.proofs.Reached.{Reached, begins}
 use Rattle.run.proofs.run_lent.Statement.{statement}
 use Rattle.run.proofs.run_lent.Tie as tie
 

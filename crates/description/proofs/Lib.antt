@@ -1,0 +1,3 @@
+-- Laws of the tests of a description.
+pub mod FieldLaws
+pub mod Checking

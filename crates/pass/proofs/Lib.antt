@@ -1,0 +1,5 @@
+-- Laws of a pass, and of the loop that takes it.
+pub mod Given
+pub mod Turned
+pub mod Reached
+pub mod OnePass

@@ -1,0 +1,2 @@
+-- What the contracts of a result's elements cite beside the rules.
+pub mod Elements

@@ -1,2 +1,0 @@
--- What the contracts of a result's fields cite beside the rules.
-pub mod Elements

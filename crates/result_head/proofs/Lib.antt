@@ -1,0 +1,2 @@
+-- Laws of a result's head.
+pub mod HeadLaws

@@ -1,0 +1,2 @@
+-- Laws of the weights' loops.
+pub mod WeightsAt
