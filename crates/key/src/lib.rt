@@ -11,7 +11,6 @@ ghost use Rattle.quantities.specs.Quantities.{clockLimits, budgetLimits};
 ghost use Rattle.rules.specs.Record.{soilOf, layerOf, recordOf, isLayer};
 ghost use Rattle.rules.specs.declared.record.Record.{Record};
 use opening::Opened;
-use opening::record;
 use rules::answers::Refusal;
 use rules::job::Header;
 use rules::record::Frame;
@@ -46,7 +45,7 @@ pub fn run_to_result<'a>(
     if out.len() < result::result_size(frame.elements) {
         return result::refused(Refusal::ShortBuffer);
     }
-    let counts = record::curve_counts(header);
+    let counts = opening::curve_counts(header);
     let ended = run::run_lent(
         counts,
         frame,

@@ -1,27 +1,18 @@
-// Opening: from a job's bytes to a record.
+// Opening a job's bytes into arrays.
 ghost use lib.ListN.{length};
 ghost use mathlib.Core.Path.{_≡_};
 ghost use Rattle.job.specs.Pairs.{Blank, Pairs};
 ghost use Rattle.opening.specs.Opened.{openedJob, leftDescription, leftBurden};
-ghost use Rattle.rules.specs.Opening.{opening, openingNumbers, refusedOpening};
-ghost use Rattle.rules.specs.Outcome.{answerNumbers};
-ghost use Rattle.rules.specs.Record.{recordOf};
-ghost use Rattle.rules.specs.declared.answers.Answer.the-variants.{Done};
+ghost use Rattle.rules.specs.Job.{countsOf};
 use job::framing;
 use job::framing::Framed;
 use job::pairs;
 use rules::answers::Acceptance;
-use rules::answers::Answer;
-use rules::answers::Answered;
 use rules::answers::Refusal;
 use rules::job::Header;
+use rules::record::CurveCounts;
 use rules::record::Frame;
-use rules::record::Layer;
 use rules::record::Progress;
-use rules::record::Record;
-use rules::record::Soil;
-
-pub mod record;
 
 // What an opened job gives beside its arrays: its header and the numbers of its layer, or a refusal.
 pub enum Opened {
@@ -84,69 +75,12 @@ pub fn open_into<'a>(
     }
 }
 
-// What stands where a job is refused.
-pub fn refused(cause: Refusal) -> Answered
-    ensures { λ r. ⌜ r ≡ refusedOpening cause ⌝ }
+// How many points the curves of a header have.
+pub fn curve_counts(header: Header) -> CurveCounts
+    ensures { λ r. ⌜ r ≡ countsOf header ⌝ }
 {
-    let answer = Answer::Refused(cause);
-    let after = record::blank();
-    Answered { answer, after }
-}
-
-// What stands where a job is accepted.
-pub fn done(soil: Soil, layer: Layer) -> Answered
-    ensures { λ r. ⌜ r ≡ record { answer = Done; after = recordOf soil layer } ⌝ }
-{
-    Answered {
-        answer: Answer::Done,
-        after: Record { soil, layer },
-    }
-}
-
-// Opens a job, whatever its bytes.
-pub fn open(job: &[u8]) -> Answered
-    ensures { λ r. ⌜ r ≡ opening (now (job .entry)) ⌝ }
-    ensures { λ r. ⌜ answerNumbers (r .answer) ≡ openingNumbers (now (job .entry)) ⌝ }
-{
-    let mut compressibility_void = [0; 64];
-    let mut compressibility_stress = [0; 64];
-    let mut conductivity_void = [0; 64];
-    let mut conductivity = [0; 64];
-    let mut solids = [0; 128];
-    let mut water = [0; 128];
-    let mut table_time = [0; 64];
-    let mut table_load = [0; 64];
-    let mut burden = [0; 128];
-    let opened = open_into(
-        job,
-        &mut compressibility_void,
-        &mut compressibility_stress,
-        &mut conductivity_void,
-        &mut conductivity,
-        &mut solids,
-        &mut water,
-        &mut table_time,
-        &mut table_load,
-        &mut burden,
-    );
-    match opened {
-        Opened::Refused(cause) => refused(cause),
-        Opened::Accepted(header, frame, progress) => done(
-            Soil {
-                counts: record::curve_counts(header),
-                compressibility_void,
-                compressibility_stress,
-                conductivity_void,
-                conductivity,
-            },
-            Layer {
-                frame,
-                progress,
-                solids,
-                water,
-                table_time,
-                table_load,
-            },
-        ),
+    CurveCounts {
+        compressibility: header.compressibility_points,
+        conductivity: header.conductivity_points,
     }
 }

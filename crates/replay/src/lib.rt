@@ -19,8 +19,8 @@ pub fn make_call(layer: Record, kind: u64, a: u64, b: u64) -> Answered
     ensures { λ r. ⌜ r ≡ called layer (callOf kind a b) ⌝ }
 {
     match kind {
-        0 => calls::load::set_load(layer, a),
-        1 => calls::step::take_step(layer, a),
+        0 => load::set_load(layer, a),
+        1 => step::take_step(layer, a),
         _ => run::take_run(layer, a, b),
     }
 }
@@ -68,7 +68,7 @@ pub fn replay(job: &[u8], calls: &[u64], answers: &mut [u64]) -> Answered
     ensures { λ r. ⌜ now (answers .exit) ≡ (replaying (now (job .entry)) (now (calls .entry)) (now (answers .entry))) .slice ⌝ }
     ensures { λ r. ⌜ (r .answer ≡ Done → Claim (now (job .entry)) (now (calls .entry)) (now (answers .entry)) (r .after) (now (answers .exit))) ⌝ }
 {
-    let opened = opening::open(job);
+    let opened = record_opening::open(job);
     let answer = opened.answer;
     let layer = opened.after;
     match answer {

@@ -8,15 +8,13 @@ ghost use Rattle.numbers.specs.Arrays.{overlaid};
 ghost use Rattle.quantities.specs.Quantities.{elementLimits};
 ghost use Rattle.rules.specs.Record.{soilOf, layerOf, recordOf, isLayer};
 ghost use Rattle.rules.specs.Refusals.{refusalNumber};
-ghost use Rattle.rules.specs.Result.{resultBytes, resultSize, result};
+ghost use Rattle.rules.specs.Result.{resultBytes, resultSize};
 ghost use Rattle.rules.specs.declared.record.Record.{Record};
 use record_parts::balance;
 use rules::answers::Ended;
 use rules::answers::Refusal;
-use rules::answers::Stop;
 use rules::record::CurveCounts;
 use rules::record::Frame;
-use rules::record::Record;
 use rules::record::Skeleton;
 
 // The number returned where the key is withheld for a cause.
@@ -78,51 +76,4 @@ pub fn write_lent<'a>(
         stress,
         out,
     );
-}
-
-// Writes a layer's result where it has room.
-pub fn write_layer(r: Record, stop: Stop, steps: u64, out: &mut [u8])
-    requires { ⌜ isLayer r ≡ true ⌝ }
-    requires { ⌜ resultSize (r .layer .frame .elements) ≤ length (now out) ⌝ }
-    ensures { λ _. ⌜ now (out .exit) ≡ overlaid (resultBytes r stop steps) (now (out .entry)) ⌝ }
-{
-    let frame = r.layer.frame;
-    let progress = r.layer.progress;
-    let mut burden = [0u64; 128];
-    weights::burdens(frame.elements, frame.gravity, &r.layer.solids, &mut burden);
-    let ended = Ended {
-        stop,
-        steps,
-        progress,
-    };
-    write_lent(
-        r.soil.counts,
-        r.layer.frame,
-        ended,
-        &r.soil.compressibility_void,
-        &r.soil.compressibility_stress,
-        &r.soil.conductivity_void,
-        &r.soil.conductivity,
-        &r.layer.solids,
-        &r.layer.water,
-        &r.layer.table_time,
-        &r.layer.table_load,
-        &burden,
-        out,
-    );
-}
-
-// Writes any record's result to a buffer, or refuses.
-pub fn write_result(r: Record, stop: Stop, steps: u64, out: &mut [u8]) -> u32
-    ensures { λ number. ⌜ number ≡ (result r stop steps (now (out .entry))) .number ⌝ }
-    ensures { λ _. ⌜ now (out .exit) ≡ (result r stop steps (now (out .entry))) .buffer ⌝ }
-{
-    if !layer_test::is_layer(r) {
-        return refused(Refusal::NoLayer);
-    }
-    if out.len() < result_size(r.layer.frame.elements) {
-        return refused(Refusal::ShortBuffer);
-    }
-    write_layer(r, stop, steps, out);
-    0
 }

@@ -1,3 +1,0 @@
-// Load and step, on any record.
-pub mod load;
-pub mod step;

@@ -1,0 +1,2 @@
+-- What a refused opening leaves.
+pub mod NoLayer

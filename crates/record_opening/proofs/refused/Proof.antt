@@ -1,0 +1,14 @@
+use borrow.Author.Needs.{needs}
+use Rattle.rules.specs.Opening.{refusedOpening}
+use Rattle.record_opening.proofs.refused.Statement.{statement}
+use Rattle.record_opening.proofs.refused.Tie as tie
+
+blank-requires : tie.Need-blank-requires
+blank-requires c κs = search needs
+
+returns : tie.Need-returns
+unfolding refusedOpening
+returns c = rw (c .blank .ensures)
+
+pub refused-spec : {M : Type 1} → statement M
+refused-spec = tie.close (tie.spec blank-requires returns)
