@@ -8,9 +8,9 @@ use Rattle.rules.specs.Curve.{points}
 use Rattle.quantities.specs.Quantities.{stressLimits, voidLimits}
 
 -- the abscissas go one way, the ordinates do not fall, and no number is out of range (no conductivity passes the greatest stress)
-pub record Smooth (n : ℕ) (xs ys : List ℕ) : Type 0 where
-  pub one-way : OneWay (points n xs ys)
-  pub apart : (i : ℕ) → i + 1 < n → 0 < distance (getD xs i 0) (getD xs (i + 1) 0)
-  pub higher : (i : ℕ) → i + 1 < n → getD ys i 0 ≤ getD ys (i + 1) 0
-  pub abscissa-most : (i : ℕ) → i < n → getD xs i 0 ≤ voidLimits .most
-  pub ordinate-most : (i : ℕ) → i < n → getD ys i 0 ≤ stressLimits .most
+pub record Smooth (count : ℕ) (xs ys : List ℕ) : Type 0 where
+  pub one-way : OneWay (points count xs ys)
+  pub apart : (i : ℕ) → i + 1 < count → 0 < distance (getD xs i 0) (getD xs (i + 1) 0)
+  pub higher : (i : ℕ) → i + 1 < count → getD ys i 0 ≤ getD ys (i + 1) 0
+  pub abscissa-most : (i : ℕ) → i < count → getD xs i 0 ≤ voidLimits .most
+  pub ordinate-most : (i : ℕ) → i < count → getD ys i 0 ≤ stressLimits .most

@@ -19,15 +19,15 @@ elementIn excess resistance sensitivity j = elementOf (getD excess j (pos 0)) (g
 -- the first elements of the arrays
 unfoldable pub elementsIn : ℕ → (excess : List ℤ) (resistance sensitivity : List ℕ) → List Element
 unfolding tabulate
-elementsIn n excess resistance sensitivity = tabulate n (elementIn excess resistance sensitivity)
+elementsIn elements excess resistance sensitivity = tabulate elements (elementIn excess resistance sensitivity)
 
 -- what a step needs of the arrays: no pressure and no resistance is out of range
-pub record Readable (n : ℕ) (excess : List ℤ) (resistance : List ℕ) : Type 0 where
-  pub excess-within : (j : ℕ) → j < n → Within (getD excess j (pos 0)) mostExcess
-  pub resistance-positive : (j : ℕ) → j < n → 0 < getD resistance j 0
-  pub resistance-most : (j : ℕ) → j < n → getD resistance j 0 ≤ mostResistance
+pub record Readable (elements : ℕ) (excess : List ℤ) (resistance : List ℕ) : Type 0 where
+  pub excess-within : (j : ℕ) → j < elements → Within (getD excess j (pos 0)) mostExcess
+  pub resistance-positive : (j : ℕ) → j < elements → 0 < getD resistance j 0
+  pub resistance-most : (j : ℕ) → j < elements → getD resistance j 0 ≤ mostResistance
 
 -- up through the upper face of element j
-unfoldable pub flowAbove : (top : Face) (t n : ℕ) (excess : List ℤ) (resistance : List ℕ) → ℕ → ℤ
+unfoldable pub flowAbove : (top : Face) (t elements : ℕ) (excess : List ℤ) (resistance : List ℕ) → ℕ → ℤ
 unfolding flowsAbove elementsIn
-flowAbove top t n excess resistance j = getD (flowsAbove top t (elementsIn n excess resistance [])) j (pos 0)
+flowAbove top t elements excess resistance j = getD (flowsAbove top t (elementsIn elements excess resistance [])) j (pos 0)

@@ -11,18 +11,18 @@ use Rattle.rules.specs.Curve.{points, isOn, compressibilitySound, conductivityS
 use Rattle.rules.specs.Layer.{skeletonOf, effectiveStress}
 
 -- both curves as arrays, with a count of points within its limits
-pub record SoilSound (m : ℕ) (void stress : List ℕ) (n : ℕ) (conductivityVoid conductivity : List ℕ) : Type 0 where
-  pub compressibility-few : curveLimits .least ≤ m
-  pub compressibility-many : m ≤ curveLimits .most
-  pub conductivity-few : curveLimits .least ≤ n
-  pub conductivity-many : n ≤ curveLimits .most
-  pub compressibility-sound : compressibilitySound (points m void stress) ≡ true
-  pub conductivity-sound : conductivitySound (points n conductivityVoid conductivity) (points m void stress) ≡ true
+pub record SoilSound (compressibilityPoints : ℕ) (void stress : List ℕ) (conductivityPoints : ℕ) (conductivityVoid conductivity : List ℕ) : Type 0 where
+  pub compressibility-few : curveLimits .least ≤ compressibilityPoints
+  pub compressibility-many : compressibilityPoints ≤ curveLimits .most
+  pub conductivity-few : curveLimits .least ≤ conductivityPoints
+  pub conductivity-many : conductivityPoints ≤ curveLimits .most
+  pub compressibility-sound : compressibilitySound (points compressibilityPoints void stress) ≡ true
+  pub conductivity-sound : conductivitySound (points conductivityPoints conductivityVoid conductivity) (points compressibilityPoints void stress) ≡ true
 
 -- an element on the curve, with its load and burden in range
-pub record OnSoil (m : ℕ) (void stress : List ℕ) (load : ℤ) (burden solids water : ℕ) : Type 0 where
+pub record OnSoil (compressibilityPoints : ℕ) (void stress : List ℕ) (load : ℤ) (burden solids water : ℕ) : Type 0 where
   pub load-between : Between (pos 0) (pos (stressLimits .most)) load
   pub burden-most : burden ≤ mostBurden
   pub solids-positive : 0 < solids
   pub solids-most : solids ≤ solidsLimits .most
-  pub on-curve : isOn (effectiveStress (skeletonOf (points m void stress)) solids water) ≡ true
+  pub on-curve : isOn (effectiveStress (skeletonOf (points compressibilityPoints void stress)) solids water) ≡ true

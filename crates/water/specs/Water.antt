@@ -27,7 +27,7 @@ abbrev pub staysAt : (lowest : ℤ) (above : List ℤ) (water low high : List �
 staysAt lowest above water low high j = between (getD low j 0) (getD high j 0) (newWater lowest above water j)
 
 -- what moving water needs: no height and no flow is out of range
-pub record Movable (n : ℕ) (lowest : ℤ) (above : List ℤ) (water : List ℕ) : Type 0 where
+pub record Movable (elements : ℕ) (lowest : ℤ) (above : List ℤ) (water : List ℕ) : Type 0 where
   pub lowest-within : Within lowest mostFlow
-  pub above-within : (j : ℕ) → j < n → Within (getD above j (pos 0)) mostFlow
-  pub water-most : (j : ℕ) → j < n → getD water j 0 ≤ waterLimits .most
+  pub above-within : (j : ℕ) → j < elements → Within (getD above j (pos 0)) mostFlow
+  pub water-most : (j : ℕ) → j < elements → getD water j 0 ≤ waterLimits .most

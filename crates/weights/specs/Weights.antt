@@ -7,11 +7,11 @@ use Rattle.numbers.specs.Sums.{sum}
 use Rattle.rules.specs.Layer.{buoyantWeight, burdens}
 
 -- the weight of the elements from j up
-unfoldable pub weightFrom : (gravity n : ℕ) (solids : List ℕ) → ℕ → ℕ
+unfoldable pub weightFrom : (gravity elements : ℕ) (solids : List ℕ) → ℕ → ℕ
 unfolding sum buoyantWeight firstPlaces
-weightFrom gravity n solids j = sum (map (buoyantWeight gravity) (drop j (firstPlaces n solids)))
+weightFrom gravity elements solids j = sum (map (buoyantWeight gravity) (drop j (firstPlaces elements solids)))
 
 -- B of element j
-unfoldable pub burdenAt : (gravity n : ℕ) (solids : List ℕ) → ℕ → ℕ
+unfoldable pub burdenAt : (gravity elements : ℕ) (solids : List ℕ) → ℕ → ℕ
 unfolding burdens firstPlaces
-burdenAt gravity n solids j = getD (burdens gravity (firstPlaces n solids)) j 0
+burdenAt gravity elements solids j = getD (burdens gravity (firstPlaces elements solids)) j 0
