@@ -10,10 +10,14 @@ import shutil
 import signal
 import subprocess
 from dataclasses import dataclass
-from typing import List
+from typing import List, Optional
 
 # What a check may take of a processor's time. A check of an unchanged crate takes at most 30 seconds.
 SECONDS = 180
+
+# A folder whose files are kept in memory, and what the files of one worker take there at most.
+MEMORY = "/dev/shm"
+ROOM = 512 << 20
 
 PROVED = "proved"
 AT_A_FACT = "refused"
@@ -65,6 +69,15 @@ def facts(said: str) -> List[str]:
         for place, declaration, error in PROOF_ERROR.findall(said)
         if not declaration.endswith("-spec") and not FOLLOWS.search(error) and not SHAPE.search(error)
     ]
+
+
+def memory(jobs: int) -> Optional[str]:
+    """A folder in memory that has room for so many workers, if there is one and no other is asked for. Each check
+    writes thousands of files and removes them."""
+    if "TMPDIR" in os.environ or not os.access(MEMORY, os.W_OK):
+        return None
+    found = os.statvfs(MEMORY)
+    return MEMORY if found.f_bavail * found.f_frsize >= jobs * ROOM else None
 
 
 class Kit:

@@ -7,7 +7,8 @@ An edit is what `rt must-fail` reads: a `file:` line holds for the `old:` and `n
 edits of several functions where it can (rounds.py says why that is as good); any other edit has a check of its own, in
 which some need has to be refused for what it says. The checks of one crate are made one after the other over one
 incremental folder, empty at first, so that what an edit does not reach is checked once. The last line is `N passed,
-M failed`, exit status 1 where M is not 0. EDITS_JOBS is how many crates are worked at a time.
+M failed`, exit status 1 where M is not 0. EDITS_JOBS is how many crates are worked at a time. Files stand in the folder
+TMPDIR or, without it, in memory where that has room.
 """
 
 from __future__ import annotations
@@ -27,12 +28,11 @@ ROOT = os.path.dirname(HERE)
 sys.path.insert(0, HERE)
 
 from catalogue import crate_names, proof_of  # noqa: E402
-from checker import AT_A_FACT, PROVED, CheckerError, Kit, Verdict, facts  # noqa: E402
+from checker import AT_A_FACT, PROVED, CheckerError, Kit, Verdict, facts, memory  # noqa: E402
 from rounds import owner  # noqa: E402
 from source import SourceError, read_source  # noqa: E402
 
 PARTS = ("src", "specs", "proofs")
-MEMORY = "/dev/shm"
 
 
 class EditError(Exception):
@@ -249,8 +249,7 @@ def main(words: Sequence[str]) -> int:
         if found:
             rounds[crate] = found
     jobs = int(os.environ.get("EDITS_JOBS") or os.cpu_count() or 1)
-    memory = MEMORY if os.path.isdir(MEMORY) and "TMPDIR" not in os.environ else None
-    with tempfile.TemporaryDirectory(dir=memory) as folder:
+    with tempfile.TemporaryDirectory(dir=memory(jobs)) as folder:
         trial = Trial(Kit(ROOT), sum(len(edits) for found in rounds.values() for edits in found), folder)
         with ThreadPoolExecutor(jobs) as pool:
             longest_first = sorted(rounds, key=lambda crate: -len(rounds[crate]) * code_size(ROOT, crate))

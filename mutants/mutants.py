@@ -36,16 +36,12 @@ from bench import Bench, Primed  # noqa: E402
 from catalogue import ListError, Mutant  # noqa: E402
 from changes import KINDS  # noqa: E402
 from checker import AT_A_FACT, BY_SHAPE, NO_PROGRAM, NOT_TOLD, PROVED  # noqa: E402
-from checker import CheckerError, Kit, Verdict  # noqa: E402
+from checker import CheckerError, Kit, Verdict, memory  # noqa: E402
 from program import BY_OUTPUT, TESTS  # noqa: E402
 from rounds import Told, next_round, told  # noqa: E402
 from source import SourceError  # noqa: E402
 
 LIST = os.path.join(HERE, "same_program.txt")
-
-# A folder whose files are kept in memory, and what the files of one worker take there at most.
-MEMORY = "/dev/shm"
-ROOM = 512 << 20
 
 SAME = "the same program, as listed"
 SURVIVES = "SURVIVES"
@@ -237,15 +233,6 @@ def report(run: Run, crates: Sequence[str], minutes: float) -> int:
         f" {bad} survive or are not told; {minutes:.0f} minutes"
     )
     return 1 if bad else 0
-
-
-def memory(jobs: int) -> Optional[str]:
-    """A folder in memory that has room for so many workers, if there is one and no other is asked for. Each check
-    writes thousands of files and removes them."""
-    if "TMPDIR" in os.environ or not os.access(MEMORY, os.W_OK):
-        return None
-    found = os.statvfs(MEMORY)
-    return MEMORY if found.f_bavail * found.f_frsize >= jobs * ROOM else None
 
 
 def jobs_wanted() -> int:

@@ -454,14 +454,14 @@ class Memory(unittest.TestCase):
         found = mock.Mock(f_bavail=blocks, f_frsize=4096)
         with mock.patch.dict(os.environ, variables, clear=True), mock.patch.object(os, "access", return_value=True):
             with mock.patch.object(os, "statvfs", return_value=found):
-                return mutants.memory(2)
+                return checker.memory(2)
 
     def test_files_stand_in_memory_where_there_is_room(self) -> None:
-        self.assertEqual(mutants.MEMORY, self.place(2 * mutants.ROOM // 4096, {}))
-        self.assertIsNone(self.place(2 * mutants.ROOM // 4096 - 1, {}))
+        self.assertEqual(checker.MEMORY, self.place(2 * checker.ROOM // 4096, {}))
+        self.assertIsNone(self.place(2 * checker.ROOM // 4096 - 1, {}))
 
     def test_a_folder_that_is_asked_for_is_taken(self) -> None:
-        self.assertIsNone(self.place(2 * mutants.ROOM // 4096, {"TMPDIR": "/elsewhere"}))
+        self.assertIsNone(self.place(2 * checker.ROOM // 4096, {"TMPDIR": "/elsewhere"}))
 
     def test_the_checker_writes_where_it_is_told(self) -> None:
         self.assertEqual("/room\n", checker.asked(["sh", "-c", 'echo "$TMPDIR"'], "/room").said)
