@@ -1,11 +1,11 @@
 #!/usr/bin/env python3
 """Changes one operator, number, argument or branch of a function's body at a time; the checker must refuse each.
-Where a function of a program promises nothing, the program must write something else than the gate wants. One check
-judges mutants of several functions where it can (rounds.py).
+Where a function of a program promises nothing, or reads or writes files, the program must write something else than the
+gate wants. One check judges mutants of several functions where it can (rounds.py).
 
     python3 mutants.py [COUNT [SEED]]    COUNT of the mutants, drawn by SEED (1 if not given); all without COUNT
         --crate NAME     only those of a crate; may be given again
-        --unpromised     only those in functions of programs that promise nothing
+        --unpromised     only those in such functions
         --list           print them and check none
         --keep FOLDER    keep there what the checker, or the program, says of each
 

@@ -28,6 +28,8 @@ KEYWORDS = frozenset(
     " while".split()
 )
 OPENING = {"(": ")", "[": "]", "{": "}"}
+# The libraries that read and write files.
+FILES = frozenset(("io", "os", "libc"))
 
 
 class SourceError(Exception):
@@ -45,7 +47,8 @@ class Token:
 @dataclass(frozen=True)
 class Body:
     """A function's body or a constant's value: its name and the places of its `fn` or `const`, of its first token and
-    of the one after it. A function without an `ensures` and a constant promise nothing."""
+    of the one after it. What a function does is promised where it has an `ensures` and reads and writes no file, of which no
+    promise can speak; a constant promises nothing."""
 
     name: str
     constant: bool
@@ -176,6 +179,11 @@ def has_promise(text: str) -> bool:
     return any(found.group().startswith("ensures") for found in SKIPPED.finditer(text))
 
 
+def uses_files(tokens: Sequence[Token]) -> bool:
+    """Whether some of the tokens call a library that reads and writes files."""
+    return any(one.text in FILES and other.text == "::" for one, other in zip(tokens, tokens[1:]))
+
+
 def bodies(source: Source, place: int, last: int, owner: str) -> Iterator[Body]:
     """The bodies and constants of the items from a place on, with the type that an `impl` is for before their names."""
     tokens = source.tokens
@@ -185,8 +193,10 @@ def bodies(source: Source, place: int, last: int, owner: str) -> Iterator[Body]:
             start = source.find(place, last, "{", ";")
             if start is None or tokens[start].text == ";":
                 raise SourceError(f"{source.path}: {tokens[place + 1].text} has no body")
+            end = source.partner[start]
             promised = has_promise(source.text[tokens[place].start : tokens[start].start])
-            yield Body(owner + tokens[place + 1].text, False, promised, place, start + 1, source.partner[start])
+            promised = promised and not uses_files(tokens[start:end])
+            yield Body(owner + tokens[place + 1].text, False, promised, place, start + 1, end)
             place = start
         elif word == "const":
             value = source.find(place, last, "=")

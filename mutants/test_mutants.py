@@ -100,6 +100,10 @@ class Bodies(unittest.TestCase):
         text = "fn f(a: u64) // ensures { a }\n    requires { ⌜ a < 2 ⌝ }\n{ a; }\n" + function("a")
         self.assertEqual([False, True], [body.promised for body in read_source("a.rt", text).bodies])
 
+    def test_what_a_function_does_with_files_is_not_promised(self) -> None:
+        for text, promised in (("io::write_all(1, b); a", False), ("a[libc::STDOUT]", False), ("ratio::io(a)", True)):
+            self.assertEqual(promised, source_of(text).bodies[-1].promised)
+
     def test_what_is_no_source_is_refused(self) -> None:
         for text in ("fn f() { λ }", "fn f() { (] }", "fn f() {", "fn f() ensures { ⌜ ⌝ {}"):
             with self.assertRaises(SourceError):
