@@ -56,12 +56,12 @@ fn put_column(out: &mut [u8], at: usize, values: &[u64]) -> usize
 }
 
 // Stores the numbers of an array for elements.
-pub fn put_elements(out: &mut [u8], at: usize, values: &[u64; 128]) -> usize
+pub fn put_elements(out: &mut [u8], at: usize, heights: &[u64; 128]) -> usize
     requires { ⌜ at + 2_688 ≤ length (now out) ⌝ }
-    ensures { λ r. ⌜ Put (columnText (now (values .entry))) (now (out .entry)) at (now (out .exit)) r ⌝ }
+    ensures { λ r. ⌜ Put (columnText (now (heights .entry))) (now (out .entry)) at (now (out .exit)) r ⌝ }
     ensures { λ r. ⌜ r ≤ at + 2_688 ⌝ }
 {
-    put_column(out, at, values)
+    put_column(out, at, heights)
 }
 
 // Stores the numbers of an array for points.
