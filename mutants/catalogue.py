@@ -79,12 +79,17 @@ def crate_names(root: str) -> List[str]:
     return [line.split(":")[0].strip() for line in lines if line.strip()]
 
 
-def sources_of(root: str, crate: str) -> List[Source]:
+def sources_in(folder: str, root: str) -> List[Source]:
+    """The code of the crate in a folder, its paths told from a root."""
     found = []
-    for path in sorted(glob.glob(os.path.join(root, "crates", crate, "src", "**", "*.rt"), recursive=True)):
+    for path in sorted(glob.glob(os.path.join(folder, "src", "**", "*.rt"), recursive=True)):
         with open(path, encoding="utf-8") as file:
             found.append(read_source(os.path.relpath(path, root), file.read()))
     return found
+
+
+def sources_of(root: str, crate: str) -> List[Source]:
+    return sources_in(os.path.join(root, "crates", crate), root)
 
 
 def mutants_of_body(crate: str, source: Source, body: Body, declared: Declared) -> List[Mutant]:

@@ -6,9 +6,10 @@
 An edit is what `rt must-fail` reads: a `file:` line holds for the `old:` and `new:` lines after it. One check judges
 edits of several functions where it can (rounds.py says why that is as good); any other edit has a check of its own, in
 which some need has to be refused for what it says. The checks of one crate are made one after the other over one
-incremental folder, empty at first, so that what an edit does not reach is checked once. The last line is `N passed,
-M failed`, exit status 1 where M is not 0. EDITS_JOBS is how many crates are worked at a time. Files stand in the folder
-TMPDIR or, without it, in memory where that has room.
+incremental folder, empty at first, so that what an edit does not reach is checked once. Every function that promises
+something has to have an edit that changes its body. The last line is `N passed, M failed`, exit status 1 where M is not
+0. EDITS_JOBS is how many crates are worked at a time. Files stand in the folder TMPDIR or, without it, in memory where
+that has room.
 """
 
 from __future__ import annotations
@@ -27,7 +28,7 @@ HERE = os.path.dirname(os.path.abspath(__file__))
 ROOT = os.path.dirname(HERE)
 sys.path.insert(0, HERE)
 
-from catalogue import crate_names, proof_of  # noqa: E402
+from catalogue import crate_names, proof_of, sources_in  # noqa: E402
 from checker import AT_A_FACT, PROVED, CheckerError, Kit, Verdict, facts, memory  # noqa: E402
 from rounds import owner  # noqa: E402
 from source import SourceError, read_source  # noqa: E402
@@ -130,6 +131,17 @@ def body_at(file: str, text: str, start: int, length: int) -> Optional[str]:
         if not body.constant and first < start and start + length < last:
             return proof_of(file, body.name)
     return None
+
+
+def never_changed(folder: str, edits: Sequence[Edit]) -> List[str]:
+    """The functions of a crate that promise something, and whose bodies none of the edits changes."""
+    changed = {proof for edit in edits for proof in Files(folder).apply(edit)}
+    return [
+        f"{source.path} {body.name}"
+        for source in sources_in(folder, folder)
+        for body in source.bodies
+        if body.promised and proof_of(source.path, body.name) not in changed
+    ]
 
 
 def own_proof(folder: str, edit: Edit) -> Optional[str]:
@@ -245,9 +257,12 @@ def main(words: Sequence[str]) -> int:
             parser.error(f"crates.txt does not list {name}")
     rounds = {}
     for crate in wanted or names:
-        found = rounds_of(os.path.join(ROOT, "crates", crate), edits_of(ROOT, crate))
-        if found:
-            rounds[crate] = found
+        folder, edits = os.path.join(ROOT, "crates", crate), edits_of(ROOT, crate)
+        missing = never_changed(folder, edits)
+        if missing:
+            raise EditError(f"{crate}: no edit makes these functions wrong: {', '.join(missing)}")
+        if edits:
+            rounds[crate] = rounds_of(folder, edits)
     jobs = int(os.environ.get("EDITS_JOBS") or os.cpu_count() or 1)
     with tempfile.TemporaryDirectory(dir=memory(jobs)) as folder:
         trial = Trial(Kit(ROOT), sum(len(edits) for found in rounds.values() for edits in found), folder)

@@ -78,6 +78,16 @@ class Rounds(Crate):
         found = edits.rounds_of(self.folder, [ONE, PROMISE, ONE_PROVED, TWO, BOTH])
         self.assertEqual(found, [[PROMISE], [BOTH], [ONE, TWO], [ONE_PROVED]])
 
+    def test_a_function_that_promises_something_has_an_edit_of_its_body(self) -> None:
+        for tried, wanted in (([], ["one", "two"]), ([PROMISE, TWO], ["one"]), ([ONE_PROVED], ["two"]), ([BOTH], [])):
+            with self.subTest(tried=tried):
+                self.assertEqual(edits.never_changed(self.folder, tried), [f"src/lib.rt {name}" for name in wanted])
+
+    def test_what_promises_nothing_needs_none(self) -> None:
+        with open(os.path.join(self.folder, "src", "lib.rt"), "a", encoding="utf-8") as file:
+            file.write("\nfn three(a: u64) -> u64 {\n    a\n}\n\npub const FOUR: u64 = 4;\n")
+        self.assertEqual(edits.never_changed(self.folder, [BOTH]), [])
+
     def test_an_old_text_stands_once(self) -> None:
         for old in ("let d", "let "):
             with self.subTest(old), self.assertRaises(edits.EditError):
