@@ -7,15 +7,16 @@ An edit is what `rt must-fail` reads: a `file:` line holds for the `old:` and `n
 edits of several functions where it can (rounds.py says why that is as good); any other edit has a check of its own, in
 which some need has to be refused for what it says. The checks of one crate are made one after the other over one
 incremental folder, empty at first, so that what an edit does not reach is checked once. Every function that promises
-something has to have an edit that changes its body. The last line is `N passed, M failed`, exit status 1 where M is not
-0. EDITS_JOBS is how many crates are worked at a time. Files stand in the folder TMPDIR or, without it, in memory where
-that has room.
+something has to have an edit that changes its body, and where an edit changes a proof it must not slip there. The last
+line is `N passed, M failed`, exit status 1 where M is not 0. EDITS_JOBS is how many crates are worked at a time. Files
+stand in the folder TMPDIR or, without it, in memory where that has room.
 """
 
 from __future__ import annotations
 
 import argparse
 import os
+import re
 import shutil
 import sys
 import tempfile
@@ -29,11 +30,15 @@ ROOT = os.path.dirname(HERE)
 sys.path.insert(0, HERE)
 
 from catalogue import crate_names, proof_of, sources_in  # noqa: E402
-from checker import AT_A_FACT, PROVED, CheckerError, Kit, Verdict, facts, memory  # noqa: E402
+from checker import AT_A_FACT, PROOF_ERROR, PROVED, CheckerError, Kit, Verdict, facts, memory  # noqa: E402
 from rounds import owner  # noqa: E402
 from source import SourceError, read_source  # noqa: E402
 
 PARTS = ("src", "specs", "proofs")
+
+# An error in how an edit writes a proof: a name that is not there or names something else. One of layout has no
+# declaration before it.
+SLIP = re.compile(r"is not in scope|it is a constructor of `|, a constructor of `[^`]*`, is checked against")
 
 
 class EditError(Exception):
@@ -169,16 +174,26 @@ def rounds_of(folder: str, edits: Sequence[Edit]) -> List[List[Edit]]:
     return rounds
 
 
-def refused(found: Verdict, folder: str) -> str:
-    place = facts(found.said)[0]
-    return "refused at " + place.replace(folder + os.sep, "")
+def slips(said: str) -> List[str]:
+    """The places where a proof is refused however true it is."""
+    return [place for place, declaration, error in PROOF_ERROR.findall(said) if not declaration or SLIP.search(error)]
+
+
+def judged_alone(found: Verdict, folder: str) -> str:
+    """What the verdict of a check in a folder tells of the one edit that was applied there."""
+    slipped = slips(found.said)
+    if slipped:
+        return "its proof slips at " + slipped[0].replace(folder + os.sep, "")
+    if found.answer != AT_A_FACT:
+        return found.answer
+    return "refused at " + facts(found.said)[0].replace(folder + os.sep, "")
 
 
 def judged(edits: Sequence[Edit], source: str, folder: str, texts: Dict[str, str], found: Verdict) -> Judged:
     """What the verdict of a check in a folder tells of the edits that were applied there."""
     if len(edits) == 1:
-        return Judged({edits[0]: refused(found, folder) if found.answer == AT_A_FACT else found.answer}, [])
-    if found.answer != AT_A_FACT:
+        return Judged({edits[0]: judged_alone(found, folder)}, [])
+    if found.answer != AT_A_FACT or slips(found.said):
         return Judged({}, list(edits))
     code = {file: text for file, text in texts.items() if file.startswith("src/")}
     places: Dict[Optional[str], str] = {}

@@ -123,6 +123,20 @@ class Judging(Crate):
         for answer in (PROVED, BY_SHAPE):
             self.assertEqual(self.told([ONE, TWO], answer), edits.Judged({}, [ONE, TWO]))
 
+    def test_a_slip_in_a_proof_is_no_refusal(self) -> None:
+        fact = f"{self.folder}/proofs/two/Proof.antt:3:4: error: `returns`: it is not so\n"
+        for words in (
+            "`returns`: `one` is not in scope; did you mean `two`?",
+            "`returns`: `refl` is not a constructor of `N`, the data type that the expected type `a ≡ b`\n  ends in: it is a constructor of `I`",
+            "`returns`: `refl`, a constructor of `I`, is checked against `a ≡ b`, which does not end in a data type",
+            "this line starts at column 1, but the `(` opened at 10:21 is still open",
+        ):
+            found = Verdict(AT_A_FACT, f"{self.folder}/proofs/one/Proof.antt:1:2: error: {words}\n{fact}")
+            with self.subTest(words):
+                alone = edits.judged([ONE], self.folder, self.folder, {}, found)
+                self.assertEqual(alone.decided, {ONE: "its proof slips at proofs/one/Proof.antt:1:2"})
+                self.assertEqual(edits.judged([ONE, TWO], self.folder, self.folder, {}, found), edits.Judged({}, [ONE, TWO]))
+
     def test_alone_only_a_refusal_at_a_fact_counts(self) -> None:
         self.assertEqual(self.told([ONE], AT_A_FACT, "proofs/Laws.antt:1:1").decided, {ONE: "refused at proofs/Laws.antt:1:1"})
         for answer in (PROVED, BY_SHAPE):
