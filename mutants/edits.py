@@ -258,7 +258,7 @@ class Trial:
                 self.passed += 1
             else:
                 self.failed += 1
-                answer = "SURVIVES" if answer == PROVED else answer.upper()
+                answer = "SURVIVES" if answer == PROVED else f"FAILS: {answer}"
             print(f"edit {self.passed + self.failed} of {self.count}: {edit.title()}: {answer}", flush=True)
 
 
