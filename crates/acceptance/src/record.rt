@@ -16,7 +16,7 @@ use rules::record::Frame;
 use rules::record::Progress;
 
 // The face that a number says.
-pub fn numbered_face(number: u8, held: Pressure) -> Face
+pub fn numbered_face(number: u64, held: Pressure) -> Face
     ensures { λ r. ⌜ r ≡ numberedFace number held ⌝ }
 {
     if number == 0 {

@@ -29,7 +29,7 @@ pub fn clear(elements: usize, numbers: &mut [u64; 128])
 
 // Whether a start has water: then it is put in place of the water that is given, which otherwise stays.
 pub fn start_water<'a>(
-    start: u8,
+    start: u64,
     elements: usize,
     load: u64,
     burden: &'a [u64; 128],

@@ -1,11 +1,11 @@
--- There are sixteen causes, numbered from 1.
+-- There are seventeen causes, numbered from 1.
 use Prim.Native.Nat.{_≤_, _<_}
 use lib.Dec.{lit≤}
 use Rattle.rules.specs.Refusals.{refusalNumber}
 use Rattle.rules.specs.declared.answers.Refusal.{Refusal}
-use Rattle.rules.specs.declared.answers.Refusal.the-variants.{ShortOrUnmarked, OtherVersion, HeaderOutside, WrongLength, FieldOutside, CompressibilityCurve, ConductivityCurve, LoadTable, StartOffCurve, ShortBuffer, NoLayer, LoadOutside, StepOutside, StepTooLong, StepOffCurve, RunOutside}
+use Rattle.rules.specs.declared.answers.Refusal.the-variants.{ShortOrUnmarked, OtherVersion, HeaderOutside, WrongLength, FieldOutside, CompressibilityCurve, ConductivityCurve, LoadTable, StartOffCurve, ShortBuffer, NoLayer, LoadOutside, StepOutside, StepTooLong, StepOffCurve, RunOutside, ShortJobBuffer}
 
-pub cause-numbered : (cause : Refusal) → (0 < refusalNumber cause) × (refusalNumber cause ≤ 16)
+pub cause-numbered : (cause : Refusal) → (0 < refusalNumber cause) × (refusalNumber cause ≤ 17)
 unfolding refusalNumber
 cause-numbered ShortOrUnmarked = (lit≤ tt, lit≤ tt)
 cause-numbered OtherVersion = (lit≤ tt, lit≤ tt)
@@ -23,3 +23,4 @@ cause-numbered StepOutside = (lit≤ tt, lit≤ tt)
 cause-numbered StepTooLong = (lit≤ tt, lit≤ tt)
 cause-numbered StepOffCurve = (lit≤ tt, lit≤ tt)
 cause-numbered RunOutside = (lit≤ tt, lit≤ tt)
+cause-numbered ShortJobBuffer = (lit≤ tt, lit≤ tt)

@@ -28,6 +28,7 @@ pub fn refusal_number(cause: Refusal) -> u64
         Refusal::StepTooLong => 14,
         Refusal::StepOffCurve => 15,
         Refusal::RunOutside => 16,
+        Refusal::ShortJobBuffer => 17,
     }
 }
 

@@ -8,7 +8,7 @@ use mathlib.Core.Path.{_≡_, refl, sym}
 use Rattle.rules.specs.Refusals.{Trial, firstCause}
 use Rattle.rules.specs.declared.answers.Refusal.{Refusal}
 
-none-some : (cause : Refusal) → none ≡ some cause → ⊥
+pub none-some : (cause : Refusal) → none ≡ some cause → ⊥
 none-some cause e = let z : _≡_ {A = ℕ} 0 1 = cc in omega arith
 
 -- the first of the earlier list is the first of both

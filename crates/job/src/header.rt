@@ -25,13 +25,13 @@ pub fn read_header(job: &[u8]) -> Header
     ensures { λ r. ⌜ r ≡ (described (now (job .entry))) .header ⌝ }
 {
     Header {
-        top: encoding::byte(job, 5),
-        bottom: encoding::byte(job, 6),
+        top: encoding::byte(job, 5) as u64,
+        bottom: encoding::byte(job, 6) as u64,
         elements: encoding::byte(job, 7) as usize,
         compressibility_points: encoding::byte(job, 8) as usize,
         conductivity_points: encoding::byte(job, 9) as usize,
         table_points: encoding::byte(job, 10) as usize,
-        start: encoding::byte(job, 11),
+        start: encoding::byte(job, 11) as u64,
         gravity: encoding::field(job, 2, 12),
         top_level: encoding::field(job, 8, 16),
         bottom_level: encoding::field(job, 8, 24),

@@ -12,6 +12,8 @@ pub mod Shares
 pub mod Searches
 -- little-endian numbers
 pub mod LittleEndian
+-- lists one after the other
+pub mod Appended
 -- lists by index, and arrays
 pub mod Indices
 pub mod Filled

@@ -10,7 +10,7 @@ use quantities::Head;
 use quantities::Pressure;
 
 // The job's number of a face.
-pub fn face_number(face: Face) -> u8
+pub fn face_number(face: Face) -> u64
     ensures { λ r. ⌜ r ≡ faceNumber face ⌝ }
 {
     match face {

@@ -11,24 +11,24 @@ use rules::job::Header;
 
 // Whether the numbers of a job's bytes 5 to 13 keep their limits.
 pub fn form_sound(
-    top: u8,
-    bottom: u8,
+    top: u64,
+    bottom: u64,
     elements: usize,
     compressibility_points: usize,
     conductivity_points: usize,
     table_points: usize,
-    start: u8,
+    start: u64,
     gravity: u64,
 ) -> bool
     ensures { λ r. ⌜ r ≡ formSound top bottom elements «compressibility_points» «conductivity_points» «table_points» start gravity ⌝ }
 {
-    Flag::within(top as u64)
-        & Flag::within(bottom as u64)
+    Flag::within(top)
+        & Flag::within(bottom)
         & Elements::within(elements as u64)
         & CurvePoints::within(compressibility_points as u64)
         & CurvePoints::within(conductivity_points as u64)
         & TablePoints::within(table_points as u64)
-        & Flag::within(start as u64)
+        & Flag::within(start)
         & Gravity::within(gravity)
 }
 

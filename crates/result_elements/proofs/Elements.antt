@@ -1,7 +1,6 @@
 -- The elements of a result, as a loop stores them.
-use Prim.Native.Nat.{ℕ, zero, suc, _+_, _*_}
+use Prim.Native.Nat.{ℕ, _+_, _*_}
 use native.Mathlib.Nat.{add-zero, zero-add}
-use native.Mathlib.Numerals.{add-one}
 use native.Mathlib.Omega.{arith}
 use lib.IntN.{ℤ, pos, _+ℤ_}
 use lib.ListN.{length, getD, length-append}
@@ -9,8 +8,8 @@ use lib.Seq.{sets}
 use mathlib.Core.List.{List, [], _∷_, _++_, append-nil, append-assoc}
 use mathlib.Core.Path.{_≡_, refl, sym, ap, _∙_}
 use Rattle.encoding.proofs.Stores.{sets-append}
-use Rattle.numbers.specs.Arrays.{tabulate, firstPlaces}
-use Rattle.numbers.proofs.Filled.{first-length}
+use Rattle.numbers.specs.Arrays.{firstPlaces}
+use Rattle.numbers.proofs.Filled.{first-length, tabulate-more}
 use Rattle.numbers.specs.Sums.{sum}
 use Rattle.numbers.proofs.Sums.{sum-append}
 use Rattle.rules.specs.Curve.{valueOf}
@@ -48,12 +47,8 @@ heightOf Ss Ws = sum Ss + sum Ws
 
 -- one place more of an array
 first-more : (n : ℕ) (array : List ℕ) → firstPlaces (n + 1) array ≡ firstPlaces n array ++ (getD array n 0 ∷ [])
-unfolding firstPlaces tabulate
-first-more n array = rw (add-one n) (go n (λ i. getD array i 0))
-  where
-    go : (n : ℕ) (f : ℕ → ℕ) → tabulate (suc n) f ≡ tabulate n f ++ (f n ∷ [])
-    go zero f = refl
-    go (suc n) f = ap (λ (rest : List ℕ). f zero ∷ rest) (go n (λ k. f (suc k)))
+unfolding firstPlaces
+first-more n array = tabulate-more n (λ i. getD array i 0)
 
 -- the height with one element more
 pub height-more : (solids water : List ℕ) (j below : ℕ) → below ≡ heightOf (firstPlaces j solids) (firstPlaces j water) →

@@ -20,6 +20,7 @@ pub enum Refusal {
     StepTooLong,
     StepOffCurve,
     RunOutside,
+    ShortJobBuffer,
 }
 
 // Why a run stopped.

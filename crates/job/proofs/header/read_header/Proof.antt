@@ -7,35 +7,44 @@ use Rattle.job.proofs.header.read_header.Tie as tie
 byte-requires : tie.Need-byte-requires
 byte-requires c κs = search needs
 
+cast-t3 : tie.Need-cast-t3
+cast-t3 c = search needs
+
 byte-requires-2 : tie.Need-byte-requires-2
 byte-requires-2 c κs = search needs
-
-byte-requires-3 : tie.Need-byte-requires-3
-byte-requires-3 c κs = search needs
 
 cast-t5 : tie.Need-cast-t5
 cast-t5 c = search needs
 
-byte-requires-4 : tie.Need-byte-requires-4
-byte-requires-4 c κs = search needs
+byte-requires-3 : tie.Need-byte-requires-3
+byte-requires-3 c κs = search needs
 
 cast-t7 : tie.Need-cast-t7
 cast-t7 c = search needs
 
-byte-requires-5 : tie.Need-byte-requires-5
-byte-requires-5 c κs = search needs
+byte-requires-4 : tie.Need-byte-requires-4
+byte-requires-4 c κs = search needs
 
 cast-t9 : tie.Need-cast-t9
 cast-t9 c = search needs
 
-byte-requires-6 : tie.Need-byte-requires-6
-byte-requires-6 c κs = search needs
+byte-requires-5 : tie.Need-byte-requires-5
+byte-requires-5 c κs = search needs
 
 cast-t11 : tie.Need-cast-t11
 cast-t11 c = search needs
 
+byte-requires-6 : tie.Need-byte-requires-6
+byte-requires-6 c κs = search needs
+
+cast-t13 : tie.Need-cast-t13
+cast-t13 c = search needs
+
 byte-requires-7 : tie.Need-byte-requires-7
 byte-requires-7 c κs = search needs
+
+cast-t15 : tie.Need-cast-t15
+cast-t15 c = search needs
 
 field-requires : tie.Need-field-requires
 field-requires c κs = search needs
@@ -74,16 +83,19 @@ read-header-spec =
     tie.close
     (tie.spec
     byte-requires
+    cast-t3
     byte-requires-2
-    byte-requires-3
     cast-t5
-    byte-requires-4
+    byte-requires-3
     cast-t7
-    byte-requires-5
+    byte-requires-4
     cast-t9
-    byte-requires-6
+    byte-requires-5
     cast-t11
+    byte-requires-6
+    cast-t13
     byte-requires-7
+    cast-t15
     field-requires
     field-requires-2
     field-requires-3
