@@ -21,7 +21,7 @@ use Rattle.rules.specs.declared.answers.Refusal.the-variants.{HeaderOutside, St
 use Rattle.rules.specs.declared.record.Frame.{Frame}
 use Rattle.rules.specs.declared.record.Progress.{Progress}
 
-refused-accepted : (cause : Refusal) (frame : Frame) (progress : Progress) → Refused cause ≡ Accepted frame progress → ⊥
+pub refused-accepted : (cause : Refusal) (frame : Frame) (progress : Progress) → Refused cause ≡ Accepted frame progress → ⊥
 refused-accepted cause frame progress e = let z : _≡_ {A = ℕ} 0 1 = cc in omega arith
 
 module _ (d : Description) where

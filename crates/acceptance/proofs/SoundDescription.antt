@@ -4,7 +4,7 @@ use native.Mathlib.Omega.{arith}
 use lib.Dec.{eqb}
 use lib.IntN.{pos}
 use lib.ListN.{getD, length}
-use mathlib.Core.Bool.{Bool, true, false, _&&_, _||_}
+use mathlib.Core.Bool.{Bool, true, false, _||_}
 use mathlib.Core.List.{List}
 use mathlib.Core.Option.{Option, none, some}
 use mathlib.Core.Path.{_≡_, refl, sym, ap, _∙_}
@@ -18,22 +18,21 @@ use Rattle.laws.proofs.Excess.{burdens-most}
 use Rattle.laws.proofs.Lengths.{burdens-length}
 use Rattle.laws.specs.Most.{mostBurden, sharpBurden}
 use Rattle.laws.proofs.Sizes.{SoundSizes, sound-sizes}
+use Rattle.laws.proofs.SoundFields.{SoundFields, sound-fields}
 use Rattle.laws.proofs.SoundHeader.{SoundHeader, kept-header}
 use Rattle.weights.specs.Weights.{burdenAt}
 use Rattle.numbers.specs.Arrays.{firstPlaces}
 use Rattle.numbers.proofs.Filled.{first-length, getD-filled}
 use Rattle.numbers.specs.Lists.{all, firstOr}
-use Rattle.numbers.proofs.Searches.{passed, both, is-true}
 use Rattle.numbers.proofs.Signed.{signed}
 use Rattle.numbers.specs.Sums.{sum}
 use Rattle.rules.proofs.Points.{from-point}
 use Rattle.rules.specs.Curve.{Point, points, compressibilitySound}
-use Rattle.rules.specs.Job.{Description, describedCauses, fieldsSound, frameOf, givenWater, headerSound, jobSite}
+use Rattle.rules.specs.Job.{Description, describedCauses, frameOf, givenWater, headerSound, jobSite}
 use Rattle.rules.specs.Layer.{skeletonOf, burdens}
 use Rattle.rules.specs.Load.{firstPoint}
 use Rattle.rules.specs.Opening.{descriptionWater, layerCauses}
-use Rattle.quantities.specs.Quantities.{within, clockLimits, budgetLimits, levelLimits, solidsLimits, stressLimits, waterLimits, elementLimits}
-use Rattle.rules.specs.Record.{sizesSound}
+use Rattle.quantities.specs.Quantities.{levelLimits, solidsLimits, stressLimits, waterLimits, elementLimits}
 use Rattle.rules.specs.Refusals.{firstCause}
 use Rattle.rules.specs.Start.{openingLoad, openingState, startWater}
 use Rattle.rules.specs.declared.answers.Acceptance.the-variants.{Accepted, Refused}
@@ -50,27 +49,24 @@ module _ (d : Description) (header : headerSound d.header ≡ true) (sound : fir
       (d .header .«table_points») d.header.start d.header.gravity
   kept = kept-header d.header header
 
-  -- levels, solids and water, and the water of start 1
-  sized : SoundSizes n (pos (d .header .«top_level»)) (pos (d .header .«bottom_level»)) d.solids d.water ×
-      (eqb d.header.start 0 || all (λ w. eqb w 0) (firstPlaces n d.water) ≡ true)
-  unfolding fieldsSound jobSite givenWater
-  sized =
-      let sizes = sizesSound (jobSite d) (givenWater d) in
-      let two = sizes && within clockLimits d.header.end in
-      let (first3, given) = both (two && within budgetLimits d.header.budget) _ (passed (none-tests d sound .0)) in
-      let (first2, budgeted) = both two _ first3 in
-      let (first, ended) = both sizes _ first2 in
-      (sound-sizes (jobSite d) n d.solids d.water refl (is-true sizes first), is-true _ given)
+  pub fields : SoundFields d
+  fields = sound-fields d (none-tests d sound .0)
+
+  -- levels, solids and water
+  sized : SoundSizes n (pos (d .header .«top_level»)) (pos (d .header .«bottom_level»)) d.solids d.water
+  unfolding jobSite givenWater
+  sized = sound-sizes (jobSite d) n d.solids d.water refl (fields .sizes)
 
   pub levels-kept : (d .header .«top_level» ≤ levelLimits .most) × (d .header .«bottom_level» ≤ levelLimits .most)
-  levels-kept = let t = sized .0 .top-level .1 in let b = sized .0 .bottom-level .1 in (omega signed, omega signed)
+  levels-kept = let t = sized .top-level .1 in let b = sized .bottom-level .1 in (omega signed, omega signed)
 
   pub heights-kept : (j : ℕ) → j < n →
       (0 < getD d.solids j 0) × (getD d.solids j 0 ≤ solidsLimits .most) × (getD d.water j 0 ≤ waterLimits .most)
-  heights-kept j h = (omega (arith, sized .0 .solids-least j h), sized .0 .solids-most j h, sized .0 .water-most j h)
+  heights-kept j h = (omega (arith, sized .solids-least j h), sized .solids-most j h, sized .water-most j h)
 
   pub dry : eqb d.header.start 0 || all (λ w. eqb w 0) (firstPlaces n d.water) ≡ true
-  dry = sized .1
+  unfolding givenWater
+  dry = fields .dry
 
   abbrev pub curve : List Point
   curve = points (d .header .«compressibility_points») (d .compressibilityVoid) (d .compressibilityStress)
@@ -103,7 +99,7 @@ module _ (d : Description) (header : headerSound d.header ≡ true) (sound : fir
     unfolding firstPlaces
     burden-most j h =
         let solid : Every (λ S. S ≤ solidsLimits .most) (firstPlaces n d.solids) =
-        every-tabulate (λ S. S ≤ solidsLimits .most) n (λ i. getD d.solids i 0) (λ i k. sized .0 .solids-most i k) in
+        every-tabulate (λ S. S ≤ solidsLimits .most) n (λ i. getD d.solids i 0) (λ i k. sized .solids-most i k) in
         let few : length (firstPlaces n d.solids) ≤ elementLimits .most = omega (arith, first-length n d.solids, kept .elements-kept .most) in
         let most = every-at (λ B. B ≤ sharpBurden) (burdens d.header.gravity (firstPlaces n d.solids)) j 0
         (burdens-most d.header.gravity (kept .gravity-kept .most) _ solid few)

@@ -2,23 +2,23 @@
 use Prim.Native.Nat.{ℕ, zero, suc, _≤_}
 use native.Mathlib.Omega.{arith}
 use lib.Dec.{T, eqb, eqb·suc-zero}
-use mathlib.Core.Bool.{Bool, true, not, _&&_, _||_}
+use mathlib.Core.Bool.{Bool, true, not}
 use mathlib.Core.List.{List}
 use mathlib.Core.Option.{none}
 use mathlib.Core.Path.{_≡_, refl}
 use Rattle.claims.proofs.Causes.{twice-not, neither, none-holds}
 use Rattle.claims.proofs.Fixed.{Fixed, sized-dry}
+use Rattle.laws.proofs.SoundFields.{sound-fields}
 use Rattle.laws.proofs.SoundHeader.{kept-header}
 use Rattle.laws.specs.Every.{Every}
 use Rattle.numbers.proofs.Equality.{eqℤ-refl}
 use Rattle.numbers.specs.Integers.{eqℤ}
-use Rattle.numbers.specs.Lists.{all}
-use Rattle.numbers.proofs.Searches.{passed, is-true, both}
+use Rattle.numbers.proofs.Searches.{passed, is-true}
 use Rattle.rules.specs.Curve.{compressibilitySound, conductivitySound}
 use Rattle.rules.specs.Job.{Description, field, described, numberedFace, frameOf, jobSite, givenWater, fieldsSound, headerSound, jobCauses}
 use Rattle.rules.specs.Layer.{topPressure}
 use Rattle.rules.specs.Load.{tableSound}
-use Rattle.quantities.specs.Quantities.{within, clockLimits, budgetLimits, flagLimits, elementLimits, curveLimits, tableLimits, gravityLimits, startingWaterLimits}
+use Rattle.quantities.specs.Quantities.{flagLimits, elementLimits, curveLimits, tableLimits, gravityLimits, startingWaterLimits}
 use Rattle.numbers.specs.Sums.{sum}
 use Rattle.rules.specs.Opening.{openedRecord}
 use Rattle.rules.specs.Record.{formSound, faceNumber, sizesSound, faceHolds, recordSite}
@@ -85,13 +85,7 @@ header-again h held held′ e =
 
 module _ (d : Description) (s : Described d) where
   sized : T (sizesSound (jobSite d) (givenWater d))
-  unfolding fieldsSound
-  sized =
-      let a = sizesSound (jobSite d) (givenWater d) in
-      let end = within clockLimits d.header.end in
-      let budget = within budgetLimits d.header.budget in
-      let given = eqb d.header.start 0 || all (λ w. eqb w 0) (givenWater d) in
-      both a end (both (a && end) budget (both (a && end && budget) given (passed (s .fields)) .0) .0) .0
+  sized = passed (sound-fields d (s .fields) .sizes)
 
   pub fixed-opened : (water : List ℕ) → sum water ≤ startingWaterLimits .most → Fixed (openedRecord d water)
   unfolding openedRecord frameOf jobSite recordSite

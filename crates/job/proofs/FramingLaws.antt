@@ -7,8 +7,8 @@ use borrow.Author.Tests.{eqb-true, ltb-false, not-false}
 use mathlib.Core.Bool.{Bool, true, false, not, _||_, true≢false}
 use mathlib.Core.List.{List, [], _∷_}
 use mathlib.Core.Option.{Option, none, some}
-use mathlib.Core.Path.{_≡_, refl, sym, _∙_}
-use Rattle.job.proofs.FirstCause.{first-earlier, first-later}
+use mathlib.Core.Path.{_≡_, refl, sym, ap, _∙_}
+use Rattle.job.proofs.FirstCause.{first-earlier, first-later, none-some}
 use Rattle.job.specs.Framing.{framing}
 use Rattle.job.specs.declared.framing.Framed.{Framed}
 use Rattle.job.specs.declared.framing.Framed.the-variants.{Sound, Refused}
@@ -93,9 +93,24 @@ module _ (job : List ℕ) where
   pub kept : isOutside ≡ false → headerSound header ≡ true
   kept e = not-false _ (neither (not (headerSound header)) _ e .0)
 
+  -- and the mark, the version and the two bytes that are not used are as they must be
+  pub mark-there : isShort ≡ false → marked job ≡ true
+  mark-there e = not-false _ (neither (ltb (length job) headerLength) _ e .1)
+
+  pub version-there : isOther ≡ false → field 2 3 job ≡ 1
+  version-there e = eqb-true _ _ (not-false _ e)
+
+  pub unused-zero : isOutside ≡ false → field 2 14 job ≡ 0
+  unused-zero e = eqb-true _ _ (not-false _ (neither (not (headerSound header)) _ e .1))
+
+  -- where every test fails, none of them holds
+  pub all-passed : isShort ≡ false → isOther ≡ false → isOutside ≡ false → isWrong ≡ false → framing job ≡ Sound header
+  unfolding chosen
+  all-passed short other outside wrong = by-tests ∙ rw (short, other, outside, wrong)
+
   -- where none of them holds, the header is the job's, its numbers keep their limits and the length is theirs
   module _ (h : Header) (e : framing job ≡ Sound h) where
-    tests : (isShort ≡ false) × (isOther ≡ false) × (isOutside ≡ false) × (isWrong ≡ false) × (header ≡ h)
+    pub tests : (isShort ≡ false) × (isOther ≡ false) × (isOutside ≡ false) × (isWrong ≡ false) × (header ≡ h)
     tests = all-false _ _ _ _ _ _ (sym by-tests ∙ e)
 
     pub framed-header : h ≡ (described job) .header
@@ -116,3 +131,11 @@ module _ (job : List ℕ) where
   pub unframed-first : (cause : Refusal) → framing job ≡ Refused cause → firstCause (jobCauses job) ≡ some cause
   unfolding framing jobCauses
   unframed-first cause e = first-earlier (framingCauses job) (describedCauses (described job)) cause (refused-some _ _ cause e)
+
+  -- a job without any cause has none of them
+  pub none-framed : firstCause (jobCauses job) ≡ none → framing job ≡ Sound header
+  none-framed e = go (framing job) refl
+    where
+      go : (f : Framed) → framing job ≡ f → framing job ≡ Sound header
+      go (Refused cause) f = absurd (none-some cause (sym e ∙ unframed-first cause f))
+      go (Sound h) f = f ∙ ap Sound (framed-header h f)

@@ -5,7 +5,7 @@ use borrow.Author.Tests.{lt-ltb, le-ltb}
 use lib.Dec.{ltb, lit≤}
 use lib.ListN.{length, take}
 use lib.Seq.{take-append-seam}
-use mathlib.Core.Bool.{Bool, true, false, _&&_}
+use mathlib.Core.Bool.{Bool, true, false}
 use mathlib.Core.List.{List}
 use mathlib.Core.Logic.{_⊎_, inl, inr, ⊎-elim}
 use mathlib.Core.Option.{Option, none, some}
@@ -17,20 +17,19 @@ use Rattle.claims.proofs.Stands.{stands-layer}
 use Rattle.key.proofs.Layers.{ended-elements}
 use Rattle.key.specs.Water.{waterRun}
 use Rattle.laws.specs.Every.{Every}
+use Rattle.laws.proofs.SoundFields.{sound-fields}
 use Rattle.lent.proofs.Standing.{counted}
 use Rattle.numbers.specs.Arrays.{zeros, overlaid}
 use Rattle.numbers.proofs.Filled.{first-length, length-zeros, length-filled, length-overlaid, overlaid-take}
-use Rattle.numbers.proofs.Searches.{passed, both}
 use Rattle.result.proofs.ResultLaws.{result-length}
-use Rattle.quantities.proofs.Limits.{within-parts}
 use Rattle.rules.specs.Calls.{endedRun}
-use Rattle.rules.specs.Job.{firsts, seconds, described, jobSite, givenWater, fieldsSound, framingCauses, describedCauses, jobCauses}
+use Rattle.rules.specs.Job.{firsts, seconds, described, jobSite, framingCauses, describedCauses, jobCauses}
 use Rattle.rules.specs.Key.{runToResult, key}
 use Rattle.rules.specs.Layer.{Site, State}
 use Rattle.rules.specs.Opening.{openedRecord, refusedOpening, descriptionWater, opening}
 use Rattle.rules.specs.Outcome.{refusalOf}
 use Rattle.quantities.specs.Quantities.{within, clockLimits, budgetLimits, elementLimits}
-use Rattle.rules.specs.Record.{recordSite, recordState, sizesSound, isLayer}
+use Rattle.rules.specs.Record.{recordSite, recordState, isLayer}
 use Rattle.rules.specs.Refusals.{firstCause, refusalNumber}
 use Rattle.rules.specs.Result.{Returned, refusedResult, resultBytes, resultSize}
 use Rattle.rules.specs.Start.{openingState}
@@ -123,16 +122,9 @@ module _ (job : List ℕ) (done : (opening job) .answer ≡ Done) where
 
   -- its end and budget keep their limits
   pub end-and-budget : ((described job) .header .end ≤ clockLimits .most) × ((described job) .header .budget ≤ budgetLimits .most)
-  unfolding fieldsSound
   end-and-budget =
-      let d = described job in
-      let sizes = sizesSound (jobSite d) (givenWater d) in
-      let end = within clockLimits (d .header .end) in
-      let budget = within budgetLimits (d .header .budget) in
-      let (first3, _) = both (sizes && end && budget) _ (passed (described-sound job (opened job done .no-cause) .fields)) in
-      let (first2, few) = both (sizes && end) budget first3 in
-      let (_, short) = both sizes end first2 in
-      (within-parts clockLimits (d .header .end) short .1, within-parts budgetLimits (d .header .budget) few .1)
+      let fields = sound-fields (described job) (described-sound job (opened job done .no-cause) .fields) in
+      (fields .end-most, fields .budget-most)
 
   -- its key is the result of a run to its end within its budget
   pub key-run : (buffer : List ℕ) →

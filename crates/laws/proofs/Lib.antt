@@ -26,8 +26,9 @@ pub mod Balance
 pub mod Contacts
 pub mod Longest
 pub mod Shorten
--- what a sound header, sound sizes, a sound site and a sound state say
+-- what a sound header, sound fields, sound sizes, a sound site and a sound state say
 pub mod SoundHeader
+pub mod SoundFields
 pub mod Sizes
 pub mod SiteFacts
 pub mod StateFacts

@@ -3,6 +3,7 @@ ghost use lib.ListN.{length};
 ghost use mathlib.Core.Path.{_≡_};
 ghost use Rattle.description.specs.Lent.{descriptionOf};
 ghost use Rattle.rules.specs.Job.{Description};
+ghost use Rattle.writer.specs.RoundTrips.{RoundTrips};
 ghost use Rattle.writer.specs.Writing.{writing, writtenNumber, writingNumber};
 use job::header;
 use rules::answers::Acceptance;
@@ -18,7 +19,8 @@ pub enum Written {
 }
 
 // Writes the job of a description at the beginning of a buffer: refused for the causes 3 and 5 to 9, then 17, and the buffer is as
-// it was; bytes past the job are as they were. The water is written as it is given, whatever the start.
+// it was; bytes past the job are as they were. The water is written as it is given, whatever the start. What is written is
+// read again, and what was read is written again.
 pub fn write_job<'a>(
     header: Header,
     void: &'a [u64; 64],
@@ -37,6 +39,7 @@ pub fn write_job<'a>(
     ensures { λ d r. ⌜ r ≡ (writing d (now (out .entry))) .answer ⌝ }
     ensures { λ d _. ⌜ now (out .exit) ≡ (writing d (now (out .entry))) .buffer ⌝ }
     ensures { λ d r. ⌜ writtenNumber r ≡ writingNumber d (now (out .entry)) ⌝ }
+    ensures { λ d r. ⌜ RoundTrips d (now (out .entry)) r (now (out .exit)) ⌝ }
 {
     let mut started = *water;
     let mut burden = [0; 128];

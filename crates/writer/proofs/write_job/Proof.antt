@@ -12,6 +12,8 @@ use Rattle.rules.specs.declared.record.Progress.{Progress}
 use Rattle.writer.specs.Writing.{Writing, writing, writtenNumber, writingNumber, refusedWriting}
 use Rattle.writer.specs.declared.Written.{Written}
 use Rattle.writer.specs.declared.Written.the-variants.{Length}
+use Rattle.writer.specs.RoundTrips.{RoundTrips}
+use Rattle.writer.proofs.RoundTrips.{round-trips}
 use Rattle.writer.proofs.WritingLaws.{cause-writes, short-writes, room-writes, accepted-header}
 use Rattle.writer.proofs.write_job.Statement.{statement}
 use Rattle.writer.proofs.write_job.Tie as tie
@@ -50,13 +52,13 @@ module _ (c : tie.After-enum-told) where
 job-length-requires : tie.Need-job-length-requires
 job-length-requires c κs = accepted-header (d c) (is-accepted c)
 
--- what is answered, the buffer that is left, and the answer's number
+-- what is answered, the buffer that is left, the answer's number, and both round trips
 answers : (d : Description) (buffer : List ℕ) {answer : Written} {left : List ℕ} → writing d buffer ≡ record { answer = answer; buffer = left } →
-    (answer ≡ (writing d buffer) .answer) × ((left ≡ (writing d buffer) .buffer) × (writtenNumber answer ≡ writingNumber d buffer))
+    (answer ≡ (writing d buffer) .answer) × ((left ≡ (writing d buffer) .buffer) × ((writtenNumber answer ≡ writingNumber d buffer) × RoundTrips d buffer answer left))
 unfolding writingNumber
 answers d buffer e =
     let is = sym (ap (λ (w : Writing). w .answer) e) in
-    (is, (sym (ap (λ (w : Writing). w .buffer) e), ap writtenNumber is))
+    (is, (sym (ap (λ (w : Writing). w .buffer) e), (ap writtenNumber is, subst (λ (w : Writing). RoundTrips d buffer (w .answer) (w .buffer)) e (round-trips d buffer))))
 
 returns : tie.Need-returns
 unfolding refusedWriting
