@@ -13,6 +13,7 @@ As a module, in rules.py:
     run_call(record, end, budget) -> (refusal, stop, steps)
     result_bytes(record, stop, steps) -> bytes
     key_into(job, buffer) -> refusal         key(job) -> (refusal, result)
+    write_job(description, buffer) -> length or refusal
 A refusal of 0 means that the call was accepted. A refused call leaves its record or buffer as it was.
 """
 

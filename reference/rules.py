@@ -1,5 +1,6 @@
 """The rules of the paper: limits, rounding, soil, the record and its layer, the calls on a record, opening a job,
-the key. A refusal of 0 means that a call was accepted; a refused one leaves its record or buffer as it was."""
+writing a job, the key. A refusal of 0 means that a call was accepted; a refused one leaves its record or buffer as it
+was."""
 
 from __future__ import annotations
 
@@ -27,6 +28,7 @@ GRAVITY = (1_000, 5_000)
 ELEMENTS = (1, 128)
 CURVE_POINTS = (2, 64)
 TABLE_POINTS = (1, 64)
+COUNTS = (ELEMENTS, CURVE_POINTS, CURVE_POINTS, TABLE_POINTS)
 STARTING_WATER = (0, 128_000_000_000)
 OUTFLOW_PER_SECOND = 2_300_000_000
 
@@ -41,7 +43,7 @@ U64_MAX = 2**64 - 1
 ACCEPTED = 0
 NO_MARK, NO_VERSION, BAD_HEADER, BAD_LENGTH, BAD_FIELD = range(1, 6)
 BAD_FIRST_CURVE, BAD_SECOND_CURVE, BAD_TABLE, BAD_START, SHORT_BUFFER = range(6, 11)
-NO_LAYER, BAD_LOAD, BAD_STEP, STEP_TOO_LONG, STEP_OFF_CURVE, BAD_RUN = range(11, 17)
+NO_LAYER, BAD_LOAD, BAD_STEP, STEP_TOO_LONG, STEP_OFF_CURVE, BAD_RUN, SHORT_JOB_BUFFER = range(11, 18)
 
 # Stops of a run
 AT_END, BUDGET_USED, NO_STEP, OFF_CURVE = range(4)
@@ -297,13 +299,15 @@ def moved_water(water: Sequence[int], flows: Sequence[int]) -> List[int]:
 # When a record is a layer
 # ----------------------------------------------------------------------------------------------------------------
 
+def are_stated_values(counts: Sequence[int], gravity: int) -> bool:
+    """Whether the counts of elements, both curves and load table, and a specific gravity, are in their ranges."""
+    return all(map(within, counts, COUNTS)) and within(gravity, GRAVITY)
+
+
 def has_stated_values(record: Record) -> bool:
     """Whether the record's counts and specific gravity are in their ranges."""
-    return (within(record.elements, ELEMENTS)
-            and within(record.curve1_count, CURVE_POINTS)
-            and within(record.curve2_count, CURVE_POINTS)
-            and within(record.table_count, TABLE_POINTS)
-            and within(record.gravity, GRAVITY))
+    counts = (record.elements, record.curve1_count, record.curve2_count, record.table_count)
+    return are_stated_values(counts, record.gravity)
 
 
 def has_fields_in_limits(record: Record) -> bool:
@@ -458,6 +462,11 @@ class Job:
     spare: bytes = b"\0\0"
 
 
+def job_length(counts: Sequence[int]) -> int:
+    """Bytes of a job with these counts."""
+    return JOB_HEADER + 16 * sum(counts)
+
+
 def job_bytes(job: Job) -> bytes:
     """The bytes of a job; its counts are the lengths of its lists."""
     counts = [len(job.elements), len(job.curve1), len(job.curve2), len(job.table)]
@@ -487,23 +496,21 @@ def read_job(job: bytes) -> Job:
                elements=elements, curve1=curve1, curve2=curve2, table=table)
 
 
+def is_stated_header(top: int, bottom: int, start: int, counts: Sequence[int], gravity: int) -> bool:
+    """Whether faces, start, counts and specific gravity are among the values stated for them."""
+    return top in (0, 1) and bottom in (0, 1) and start in (0, 1) and are_stated_values(counts, gravity)
+
+
 def header_refusal(job: bytes) -> int:
     """Refusal for the mark, version, header bytes or length of a job, else 0."""
     if len(job) < JOB_HEADER or job[:3] != b"LSC":
         return NO_MARK
     if struct.unpack("<H", job[3:5])[0] != 1:
         return NO_VERSION
-    elements, curve1, curve2, table = job_counts(job)
-    if not (job[5] in (0, 1) and job[6] in (0, 1)
-            and within(elements, ELEMENTS)
-            and within(curve1, CURVE_POINTS)
-            and within(curve2, CURVE_POINTS)
-            and within(table, TABLE_POINTS)
-            and job[11] in (0, 1)
-            and within(struct.unpack("<H", job[12:14])[0], GRAVITY)
-            and job[14:16] == b"\0\0"):
+    gravity = struct.unpack("<H", job[12:14])[0]
+    if not (is_stated_header(job[5], job[6], job[11], job_counts(job), gravity) and job[14:16] == b"\0\0"):
         return BAD_HEADER
-    if len(job) != JOB_HEADER + 16 * (elements + curve1 + curve2 + table):
+    if len(job) != job_length(job_counts(job)):
         return BAD_LENGTH
     return ACCEPTED
 
@@ -561,6 +568,15 @@ def starting_waters(job: Job) -> List[Optional[int]]:
             for solids, buoyant in zip(heights, buoyant_stresses(heights, job.gravity))]
 
 
+def start_of(job: Job) -> Tuple[int, List[int]]:
+    """Refusal for all that follows the header of a job, else 0 and the water of every element at the start."""
+    refusal = body_refusal(job)
+    if refusal:
+        return refusal, []
+    water = starting_waters(job)
+    return (BAD_START, []) if None in water else (ACCEPTED, water)
+
+
 def padded(items: Sequence, places: int, filler) -> List:
     """A list filled up to a number of places."""
     return list(items) + [filler] * (places - len(items))
@@ -587,13 +603,115 @@ def open_job(job: bytes) -> Tuple[int, Record]:
     if refusal:
         return refusal, Record()
     parts = read_job(job)
-    refusal = body_refusal(parts)
+    refusal, water = start_of(parts)
+    return refusal, Record() if refusal else opened_record(parts, water)
+
+
+# ----------------------------------------------------------------------------------------------------------------
+# Writing a job
+# ----------------------------------------------------------------------------------------------------------------
+
+HEADER_WORDS = 12
+ARRAY_PLACES = (ELEMENT_PLACES,) * 2 + (POINT_PLACES,) * 6
+DESCRIPTION_WORDS = HEADER_WORDS + sum(ARRAY_PLACES)
+
+
+@dataclass
+class Description:
+    """A layer with its end and budget, as any numbers of 64 bits. Places past a count say nothing."""
+
+    top: int
+    bottom: int
+    elements: int
+    curve1_count: int
+    curve2_count: int
+    table_count: int
+    start: int
+    gravity: int
+    top_level: int
+    bottom_level: int
+    end: int
+    budget: int
+    solids: List[int]
+    water: List[int]
+    stress: List[int]
+    void: List[int]
+    conductivity_void: List[int]
+    conductivity: List[int]
+    time: List[int]
+    load: List[int]
+
+    def copy(self) -> Description:
+        """Another description with the same numbers."""
+        return description_of(self.words())
+
+    def words(self) -> List[int]:
+        """All its numbers, in the order of their words."""
+        values = list(vars(self).values())
+        return values[:HEADER_WORDS] + [number for array in values[HEADER_WORDS:] for number in array]
+
+    def counts(self) -> List[int]:
+        """Elements and points of first curve, second curve and load table."""
+        return [self.elements, self.curve1_count, self.curve2_count, self.table_count]
+
+    def groups(self) -> List[List[Pair]]:
+        """Elements and points of first curve, second curve and load table, up to the counts."""
+        pairs = [zip(self.solids, self.water), zip(self.stress, self.void),
+                 zip(self.conductivity_void, self.conductivity), zip(self.time, self.load)]
+        return [list(group)[:count] for group, count in zip(pairs, self.counts())]
+
+
+def description_of(words: Sequence[int]) -> Description:
+    """The description that words give: words past a short list's end are 0, and those past the last do not matter."""
+    words = padded(words[:DESCRIPTION_WORDS], DESCRIPTION_WORDS, 0)
+    arrays, at = [], HEADER_WORDS
+    for places in ARRAY_PLACES:
+        arrays.append(words[at:at + places])
+        at += places
+    return Description(*words[:HEADER_WORDS], *arrays)
+
+
+def job_description(job: Job) -> Description:
+    """The description of a job with right counts; places past a count are 0."""
+    arrays = []
+    for pairs, places in ((job.elements, ELEMENT_PLACES), (job.curve1, POINT_PLACES), (job.curve2, POINT_PLACES),
+                          (job.table, POINT_PLACES)):
+        arrays += [padded([pair[side] for pair in pairs], places, 0) for side in (0, 1)]
+    return Description(job.top, job.bottom, len(job.elements), len(job.curve1), len(job.curve2), len(job.table),
+                       job.start, job.gravity, job.top_level, job.bottom_level, job.end, job.budget, *arrays)
+
+
+def read_description(job: bytes) -> Description:
+    """The description that the bytes of a job give, whose header and length are right."""
+    return job_description(read_job(job))
+
+
+def described_job(description: Description) -> Job:
+    """The parts of the job that a description asks for; places past a count are left out."""
+    elements, curve1, curve2, table = description.groups()
+    return Job(top=description.top, bottom=description.bottom, start=description.start, gravity=description.gravity,
+               top_level=description.top_level, bottom_level=description.bottom_level, end=description.end,
+               budget=description.budget, elements=elements, curve1=curve1, curve2=curve2, table=table)
+
+
+def description_refusal(description: Description) -> int:
+    """Refusal of a description by the tests of an opening that look at more than bytes, else 0."""
+    d = description
+    if not is_stated_header(d.top, d.bottom, d.start, d.counts(), d.gravity):
+        return BAD_HEADER
+    return start_of(described_job(d))[0]
+
+
+def write_job(description: Description, buffer: bytearray) -> int:
+    """Write a description's job at the start of a buffer; gives its length, or the number of a refusal."""
+    refusal = description_refusal(description)
     if refusal:
-        return refusal, Record()
-    water = starting_waters(parts)
-    if None in water:
-        return BAD_START, Record()
-    return ACCEPTED, opened_record(parts, water)
+        return refusal
+    length = job_length(description.counts())
+    if len(buffer) < length:
+        return SHORT_JOB_BUFFER
+    buffer[:length] = job_bytes(described_job(description))
+    return length
 
 
 # ----------------------------------------------------------------------------------------------------------------

@@ -10,6 +10,7 @@ import struct
 import subprocess
 import sys
 import unittest
+from dataclasses import replace
 from fractions import Fraction
 from typing import Callable, Dict, Iterator, List, Optional, Tuple
 
@@ -265,6 +266,136 @@ class Refusals(unittest.TestCase):
         buffer = bytearray(b"\xa5" * 200)
         self.assertEqual(rules.key_into(rules.job_bytes(specimen()), buffer), 0)
         self.assertEqual((buffer[:3], buffer[136:]), (b"LSR", b"\xa5" * 64))
+
+
+class Writer(unittest.TestCase):
+    """A description becomes a job, or is refused."""
+
+    # Header numbers that are refused 3, by the names of their words.
+    OUTSIDE: Dict[str, Tuple[int, ...]] = {
+        "top": (2, 255, 256, 257), "bottom": (2, 255, 256, 257), "start": (2, 255, 256, 257),
+        "elements": (0, 129, 255, 256, 257, 258), "curve1_count": (0, 1, 65, 255, 256, 257, 258),
+        "curve2_count": (0, 1, 65, 255, 256, 257, 258), "table_count": (0, 65, 255, 256, 257),
+        "gravity": (0, 1, 257, 999, 5_001, 65_535, 65_536, 65_537, 66_536)}
+    HUGE = (2**16 + 1, 2**32, 2**32 + 1, 2**63, 2**63 + 1, 2**64 - 2, 2**64 - 1)
+
+    def written(self, description: rules.Description, room: int = 6_000) -> Tuple[int, bytes]:
+        """Answer of the writer, and the job; the rest of the buffer and the description have to stay as they were."""
+        buffer = bytearray(b"\xa5" * room)
+        words = description.words()
+        answer = rules.write_job(description, buffer)
+        length = answer if answer > 17 else 0
+        self.assertEqual((len(buffer), buffer[length:]), (room, b"\xa5" * (room - length)))
+        self.assertEqual(description.words(), words)
+        self.assertTrue(length == 0 or rules.open_job(bytes(buffer[:length]))[0] == 0)
+        return answer, bytes(buffer[:length])
+
+    def changed(self, changes: List[Callable[[rules.Job], None]], **numbers: int) -> rules.Description:
+        """The specimen's description after changes of its job, with some numbers replaced."""
+        job = specimen()
+        for change in changes:
+            change(job)
+        return replace(rules.job_description(job), **numbers)
+
+    def test_specimen(self) -> None:
+        words = [0] * 652
+        words[:12] = [1, 0, 2, 2, 2, 1, 0, 1_000, 10_000_000, 0, 100, 1]
+        words[12:14], words[140:142] = [1_000_000] * 2, [2_000_000] * 2
+        words[268:270], words[332:334] = [5_000_000, 105_000_000], [200_000_000, 100_000_000]
+        words[396:398], words[460:462] = [100_000_000, 200_000_000], [100_000, 200_000]
+        words[524], words[588] = 0, 15_000_000
+        job = b"LSC" + bytes([1, 0, 1, 0, 2, 2, 2, 1, 0, 232, 3, 0, 0]) + struct.pack(
+            "<18Q", 10_000_000, 0, 100, 1, 1_000_000, 2_000_000, 1_000_000, 2_000_000, 5_000_000, 200_000_000,
+            105_000_000, 100_000_000, 100_000_000, 100_000, 200_000_000, 200_000, 0, 15_000_000)
+        self.assertEqual(len(job), 160)
+        self.assertEqual(self.written(rules.description_of(words)), (160, job))
+        self.assertEqual(self.written(rules.description_of(words[:589] + [0])), (160, job))
+        self.assertEqual(self.written(rules.description_of(words + [2**64 - 1] * 372)), (160, job))
+        self.assertEqual(rules.read_description(job).words(), words)
+        self.assertEqual(rules.job_description(specimen()), rules.description_of(words))
+
+    def test_numbers_of_the_header(self) -> None:
+        for name, outside in self.OUTSIDE.items():
+            for number in outside + self.HUGE:
+                self.assertEqual(self.written(self.changed([], **{name: number}))[0], 3, (name, number))
+        for name, outside in (("top_level", 200_000_000_001), ("end", 3_000_000_001), ("budget", 1_000_001)):
+            for number in (outside, 2**63, 2**64 - 1):
+                self.assertEqual(self.written(self.changed([], **{name: number}))[0], 5, (name, number))
+            for number in (0, 257, outside - 1):
+                answer, job = self.written(self.changed([], **{name: number}))
+                self.assertEqual((answer, getattr(rules.read_job(job), name)), (160, number))
+        for bottom, level, answer in ((0, 1, 5), (0, 257, 5), (0, 2**64 - 1, 5), (1, 0, 160), (1, 257, 160),
+                                      (1, 200_000_000_000, 160), (1, 200_000_000_001, 5), (1, 2**64 - 1, 5)):
+            self.assertEqual(self.written(self.changed([], bottom=bottom, bottom_level=level))[0], answer)
+
+    def test_counts_that_ask_for_empty_places(self) -> None:
+        for name, number, answer in (("elements", 3, 5), ("elements", 128, 5), ("curve1_count", 3, 6),
+                                     ("curve1_count", 64, 6), ("curve2_count", 3, 7), ("curve2_count", 64, 7),
+                                     ("table_count", 2, 8), ("table_count", 64, 8), ("elements", 1, 144)):
+            self.assertEqual(self.written(self.changed([], **{name: number}))[0], answer, (name, number))
+
+    def test_every_cause_and_the_order(self) -> None:
+        later = {cause: change for cause, change in Refusals.LATER.items() if cause > 3}
+        for cause, changes in Refusals.CHANGES.items():
+            for number, change in enumerate(changes if cause >= 5 else []):
+                self.assertEqual(self.written(self.changed([change]))[0], cause, (cause, number))
+                self.assertEqual(self.written(self.changed([change]), 0)[0], cause, (cause, number, 17))
+                self.assertEqual(self.written(self.changed([change]), 159)[0], cause, (cause, number, 17))
+                self.assertEqual(self.written(self.changed([change], gravity=0), 0)[0], 3, (cause, number, 3))
+                for second, later_change in later.items():
+                    if second > cause:
+                        answer = self.written(self.changed([later_change, change]))[0]
+                        self.assertEqual(answer, cause, (cause, number, second))
+        every = list(later.values())
+        for first, cause in enumerate(later):
+            self.assertEqual(self.written(self.changed(every[first:]), 0)[0], cause)
+
+    def test_start_at_rest(self) -> None:
+        for load, answer in ((4_999_999, 9), (5_000_000, 160), (105_000_000, 160), (105_000_001, 9)):
+            description = rules.job_description(equilibrium(load))
+            self.assertEqual(self.written(description)[0], answer, load)
+            self.assertEqual(self.written(description, 159)[0], min(answer, 17), load)
+        description = rules.job_description(equilibrium(15_000_000))
+        self.assertEqual(rules.read_description(self.written(description)[1]).water, [0] * 128)
+
+    def test_short_buffer(self) -> None:
+        for room, answer in ((0, 17), (1, 17), (48, 17), (159, 17), (160, 160), (161, 160), (8_192, 160)):
+            self.assertEqual(self.written(self.changed([]), room)[0], answer)
+
+    def test_short_lists_of_words(self) -> None:
+        words = rules.job_description(specimen()).words()
+        for count, answer in ((0, 3), (7, 3), (8, 5), (12, 5), (13, 5), (14, 6), (142, 6), (333, 6), (334, 7),
+                              (461, 7), (462, 160), (588, 160), (589, 160), (652, 160)):
+            self.assertEqual(self.written(rules.description_of(words[:count]))[0], answer, count)
+
+    def test_round_trips(self) -> None:
+        accepted = 0
+        for job in makers.make_inputs("jobs", SEED, 300):
+            refusal = rules.open_job(job)[0]
+            if refusal in (1, 2, 3, 4):
+                continue
+            description = rules.read_description(job)
+            self.assertEqual(self.written(description), (refusal, b"") if refusal else (len(job), job))
+            filled = fill_past_counts(description)
+            self.assertEqual(self.written(filled), self.written(description))
+            self.assertEqual(filled.groups(), description.groups())
+            if refusal == 0:
+                self.assertEqual(self.written(description, len(job) - 1)[0], 17)
+                self.assertEqual(rules.read_description(self.written(filled)[1]), description)
+                accepted += 1
+        self.assertGreater(accepted, 150)
+
+
+def fill_past_counts(description: rules.Description) -> rules.Description:
+    """A description with a number in every place past a count."""
+    words = description.words()
+    at = 12
+    for number, count in enumerate(count for count in description.counts() for _ in (0, 1)):
+        places = 128 if number < 2 else 64
+        for place in range(count, places):
+            words[at + place] = 2**64 - 1 - place if place % 3 else 2**63 + place
+        at += places
+    return rules.description_of(words)
 
 
 class Runs(unittest.TestCase):
