@@ -1,4 +1,4 @@
-"""Damage to jobs and to records, so that they are mostly refused."""
+"""Damage to jobs, to descriptions and to records, so that they are mostly refused."""
 
 from __future__ import annotations
 
@@ -7,8 +7,10 @@ from typing import Callable, List, Tuple
 
 from chance import I64_MAX, I64_MIN, TOP_BIT, Chance
 from rules import BUDGET, CLOCK, CONDUCTIVITY, GRAVITY, LEVEL, SOLIDS, STARTING_WATER, STRESS, VOID, WATER
-from rules import ELEMENT_PLACES, JOB_BYTES_READ, JOB_HEADER, OUTFLOW_PER_SECOND, POINT_PLACES, U64_MAX, VOID_UNIT
-from rules import Job, Pair, Record, bottom_pressure, job_bytes
+from rules import ARRAY_PLACES, ELEMENT_PLACES, HEADER_WORDS, JOB_BYTES_READ, JOB_HEADER, OUTFLOW_PER_SECOND
+from rules import POINT_PLACES, U64_MAX, VOID_UNIT
+from rules import Description, Job, Pair, Record, bottom_pressure, description_of, job_bytes, job_description
+from rules import read_description
 
 
 # Damage to jobs: each function gives bytes that are mostly refused, for the cause in its name.
@@ -146,6 +148,77 @@ def damage_anywhere(chance: Chance, job: Job) -> bytes:
 DAMAGES: List[Callable[[Chance, Job], bytes]] = [
     damage_mark, damage_version, damage_header, damage_length, damage_field, damage_first_curve,
     damage_second_curve, damage_table, damage_start, damage_anywhere, damage_anywhere]
+
+
+# Damage to descriptions: each function gives one that is mostly refused, or has what no job's bytes can hold.
+
+WIDTHS = (2**8, 2**16, 2**32, TOP_BIT)  # beyond the bits that a narrower field keeps
+
+
+def word_columns(description: Description) -> List[Tuple[int, int, int]]:
+    """For every array the place of its first word, its count as far as it has places, and its places."""
+    columns, at = [], HEADER_WORDS
+    for number, places in enumerate(ARRAY_PLACES):
+        columns.append((at, min(description.counts()[number // 2], places), places))
+        at += places
+    return columns
+
+
+def wider(chance: Chance, number: int) -> int:
+    """A number of which a narrower field would keep just that number."""
+    return number % TOP_BIT + chance.pick(WIDTHS)
+
+
+def damage_count(chance: Chance, job: Job) -> Description:
+    """Cause 3, or 5 to 8: a count that is too small, past its array, far past it, or past the places filled."""
+    description = job_description(job)
+    name = chance.pick(["elements", "curve1_count", "curve2_count", "table_count"])
+    count = getattr(description, name)
+    counts = [0, 1, 64, 65, 128, 129, 255, 256, 257, count + 1, chance.between(2, 128), chance.scaled(129, U64_MAX)]
+    setattr(description, name, chance.pick(counts + [wider(chance, count), U64_MAX, U64_MAX - chance.between(1, 9)]))
+    return description
+
+
+def damage_stated(chance: Chance, job: Job) -> Description:
+    """Cause 3: a face, a start or a specific gravity that is none."""
+    description = job_description(job)
+    name, limits = chance.pick([("top", (0, 1)), ("bottom", (0, 1)), ("start", (0, 1)), ("gravity", GRAVITY)])
+    number = chance.pick([wider(chance, getattr(description, name)), outside(chance, limits), outside(chance, limits)])
+    setattr(description, name, number)
+    return description
+
+
+def damage_word(chance: Chance, job: Job) -> Description:
+    """Any cause or none: a word that counts is made wider, near to 2^64 or 0, or another by a bit or by 1."""
+    description = job_description(job)
+    words = description.words()
+    at, count, _ = chance.pick(word_columns(description) + [(0, HEADER_WORDS, HEADER_WORDS)] * 2)
+    place = at + chance.between(0, count - 1)
+    word = words[place]
+    words[place] = chance.pick([wider(chance, word), U64_MAX - chance.between(0, 9), TOP_BIT, 0, word ^ 1,
+                                word ^ 1 << chance.between(0, 63), (word + 1) & U64_MAX, (word - 1) & U64_MAX])
+    return description_of(words)
+
+
+def damage_body(chance: Chance, job: Job) -> Description:
+    """Causes 5 to 9, as in the bytes of a job."""
+    ways = [damage_field, damage_first_curve, damage_second_curve, damage_table, damage_start]
+    return read_description(chance.pick(ways)(chance, job))
+
+
+DESCRIPTION_DAMAGES: List[Callable[[Chance, Job], Description]] = [
+    damage_count, damage_stated, damage_word, damage_word, damage_body, damage_body, damage_body, damage_body]
+
+
+def with_places_past_counts(chance: Chance, description: Description) -> Description:
+    """The same description with numbers in places past its counts: in all, in a few, or in the first of each array."""
+    words = description.words()
+    kind = chance.pick(["all", "few", "first"])
+    for at, count, places in word_columns(description):
+        for place in range(at + count, at + (min(count + 1, places) if kind == "first" else places)):
+            if kind != "few" or chance.one_in(9):
+                words[place] = chance.draw() if kind == "few" else U64_MAX - place
+    return description_of(words)
 
 
 def spoil_record(chance: Chance, record: Record) -> None:

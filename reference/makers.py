@@ -1,4 +1,5 @@
-"""Making test inputs from a seed: jobs, lists that begin with a job, and lists that begin with a record."""
+"""Making test inputs from a seed: jobs, descriptions, lists that begin with a job, and lists that begin with a
+record."""
 
 from __future__ import annotations
 
@@ -6,12 +7,12 @@ import struct
 from typing import Iterator, List, Sequence, Tuple
 
 from chance import I64_MAX, TOP_BIT, Chance
-from damage import DAMAGES, changed, spoil_record
+from damage import DAMAGES, DESCRIPTION_DAMAGES, changed, spoil_record, with_places_past_counts
 from lists import RECORD_POINTS, answer_call, record_lines
 from rules import ACCEPTED, BUDGET, BUDGET_USED, CLOCK, CONDUCTIVITY, ELEMENT_PLACES, GRAVITY, LEVEL, OUTFLOW_PER_SECOND
 from rules import POINT_PLACES, SOLIDS, STARTING_WATER, STEP, STRESS, U64_MAX, VOID, VOID_UNIT, WATER
-from rules import Compressibility, Job, Layer, Pair, Record, buoyant_stresses, ceil_div, face_resistances
-from rules import is_layer, job_bytes, longest_step, open_job, resistance, run_call, void_ratio
+from rules import Compressibility, Description, Job, Layer, Pair, Record, buoyant_stresses, ceil_div, face_resistances
+from rules import is_layer, job_bytes, job_description, longest_step, open_job, resistance, run_call, void_ratio
 
 AFFORDABLE = 3_000  # element-steps of one run
 
@@ -192,6 +193,14 @@ def made_job(chance: Chance, damaged_one_in: int) -> bytes:
     if chance.one_in(damaged_one_in):
         return affordable_job(chance.pick(DAMAGES)(chance, job))
     return job_bytes(job)
+
+
+def made_description(chance: Chance, damaged_one_in: int) -> Description:
+    """A description, damaged once in so many, often with numbers in places past its counts."""
+    job = make_job(chance)
+    damaged = chance.one_in(damaged_one_in)
+    description = chance.pick(DESCRIPTION_DAMAGES)(chance, job) if damaged else job_description(job)
+    return with_places_past_counts(chance, description) if chance.one_in(4) else description
 
 
 def make_call(chance: Chance, record: Record) -> Tuple[str, List[int]]:

@@ -17,6 +17,7 @@ from typing import Callable, Dict, Iterator, List, Optional, Tuple
 HERE = os.path.dirname(os.path.abspath(__file__))
 sys.path.insert(0, HERE)
 
+import damage  # noqa: E402
 import lists  # noqa: E402
 import makers  # noqa: E402
 import rules  # noqa: E402
@@ -376,7 +377,7 @@ class Writer(unittest.TestCase):
                 continue
             description = rules.read_description(job)
             self.assertEqual(self.written(description), (refusal, b"") if refusal else (len(job), job))
-            filled = fill_past_counts(description)
+            filled = damage.with_places_past_counts(Chance(SEED, accepted), description)
             self.assertEqual(self.written(filled), self.written(description))
             self.assertEqual(filled.groups(), description.groups())
             if refusal == 0:
@@ -385,17 +386,21 @@ class Writer(unittest.TestCase):
                 accepted += 1
         self.assertGreater(accepted, 150)
 
-
-def fill_past_counts(description: rules.Description) -> rules.Description:
-    """A description with a number in every place past a count."""
-    words = description.words()
-    at = 12
-    for number, count in enumerate(count for count in description.counts() for _ in (0, 1)):
-        places = 128 if number < 2 else 64
-        for place in range(count, places):
-            words[at + place] = 2**64 - 1 - place if place % 3 else 2**63 + place
-        at += places
-    return rules.description_of(words)
+    def test_made_descriptions(self) -> None:
+        answers: Dict[int, int] = {}
+        for index in range(600):
+            description = makers.made_description(Chance(SEED, index), 2)
+            self.assertEqual(rules.description_of(description.words()), description)
+            answer, job = self.written(description)
+            answers[min(answer, 18)] = answers.get(min(answer, 18), 0) + 1
+            if answer != 3:
+                parts = rules.described_job(description)
+                self.assertEqual(rules.open_job(rules.job_bytes(parts))[0], answer if answer < 17 else 0)
+            if job:
+                self.assertEqual(rules.read_description(job).words()[:12], description.words()[:12])
+                self.assertEqual(rules.read_description(job).groups(), description.groups())
+        self.assertEqual(sorted(answers), [3, 5, 6, 7, 8, 9, 18])
+        self.assertGreater(min(answers.values()), 9)
 
 
 class Runs(unittest.TestCase):
