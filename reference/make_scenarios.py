@@ -9,7 +9,8 @@ Every answer and every state is the reference's. What is drawn is drawn by the r
 seed, so the files are the same on every machine.
 
 INPUT   Files of blocks, named in the file `args`. Words are 64 bits, little-endian; signed ones in two's complement.
-        file      number of blocks, then the blocks: here lists, in the files of `make_vectors.py` vectors
+        file      number of blocks, then the blocks: here lists, in the files of `make_vectors.py` and
+                  `make_descriptions.py` vectors
         list      kind (0 a job, 1 a record), bytes of the body (at most 8,192), number of calls (at most 32); body;
                   calls
         job       the job's bytes
@@ -53,10 +54,14 @@ RUNS = True     # whether runs are among the calls
 SEED = 20_000
 CRATE = os.path.join(os.path.dirname(HERE), "crates", "scenarios")
 
-SHARED = ("args", "stdout")   # of the lists and, after these, of the vectors (make_vectors.py), whose files are key_*
-FIRST_KEYS = b"key_accepted"  # the first file of vectors
+# The files `args` and `stdout` have a share of the lists, then one of the vectors of make_vectors.py, whose files are
+# key_*, then one of those of make_descriptions.py, whose files are job_*.
+SHARED = ("args", "stdout")
+LISTED, KEYS, JOBS = range(3)
+PREFIXES = {"key_": KEYS, "job_": JOBS}
+FIRST_FILES = (b"key_accepted", b"job_written")  # of the second share and of the third
 
-JOB, RECORD, KEY = 0, 1, 2
+JOB, RECORD, KEY, DESCRIPTION = range(4)
 CALL_NUMBERS = {"load": 0, "step": 1, "run": 2}
 BODY_BYTES = 8_192
 CALLS = 32      # most calls of a list
@@ -893,24 +898,27 @@ def made_files(least: int, runs: bool) -> Tuple[Dict[str, bytes], Answers]:
     return made, answers
 
 
-def shares(stored: bytes) -> Tuple[bytes, bytes]:
-    """The lists' share of `args` or `stdout` and, from the name of their first file on, the vectors' share."""
-    at = (b"\n" + stored).find(b"\n%s\n" % FIRST_KEYS)
-    return (stored, b"") if at < 0 else (stored[:at], stored[at:])
+def shares(stored: bytes) -> List[bytes]:
+    """The shares of `args` or `stdout`; those of vectors begin with the name of their first file."""
+    ends = [len(stored)]
+    for first in reversed(FIRST_FILES):
+        at = stored.find(first + b"\n")
+        ends.insert(0, ends[0] if at < 0 else at)
+    return [stored[start:end] for start, end in zip([0] + ends, ends)]
 
 
-def stored_files(keys: bool) -> Dict[str, bytes]:
-    """The stored files of the lists or of the vectors, with their share of `args` and `stdout`."""
+def stored_files(share: int) -> Dict[str, bytes]:
+    """The stored files of the lists or of vectors, with their share of `args` and `stdout`."""
     folder = os.path.join(CRATE, "data")
     found = {}
     for name in sorted(os.listdir(folder)) if os.path.isdir(folder) else []:
-        if name.startswith("key_") == keys:
+        if PREFIXES.get(name[:4], LISTED) == share:
             with open(os.path.join(folder, name), "rb") as source:
                 found[os.path.join("data", name)] = source.read()
     for name in SHARED:
         if os.path.exists(os.path.join(CRATE, name)):
             with open(os.path.join(CRATE, name), "rb") as source:
-                found[name] = shares(source.read())[keys]
+                found[name] = shares(source.read())[share]
     return found
 
 
@@ -920,9 +928,9 @@ def difference(stored: bytes, made: bytes) -> str:
     return "byte %d, line %d; %d bytes stored, %d made" % (at, stored[:at].count(b"\n") + 1, len(stored), len(made))
 
 
-def check(made: Dict[str, bytes], keys: bool = False) -> int:
-    """Compare the made files with the stored ones, of the lists or of the vectors; 1 where they differ."""
-    stored = stored_files(keys)
+def check(made: Dict[str, bytes], share: int = LISTED) -> int:
+    """Compare the made files with the stored ones, of the lists or of vectors; 1 where they differ."""
+    stored = stored_files(share)
     faults = ["%s: should not be there" % name for name in stored if name not in made]
     faults += ["%s: missing" % name for name in made if name not in stored]
     faults += ["%s: differs from %s" % (name, difference(stored[name], data)) for name, data in made.items()
@@ -932,15 +940,16 @@ def check(made: Dict[str, bytes], keys: bool = False) -> int:
     return 1 if faults else 0
 
 
-def write(made: Dict[str, bytes], keys: bool = False) -> None:
-    """Store the made files, of the lists or of the vectors, in place of the old ones."""
-    others = stored_files(not keys)
+def write(made: Dict[str, bytes], share: int = LISTED) -> None:
+    """Store the made files, of the lists or of vectors, in place of the old ones."""
+    stored = [stored_files(each) for each in (LISTED, KEYS, JOBS)]
     os.makedirs(os.path.join(CRATE, "data"), exist_ok=True)
-    for name in stored_files(keys):
+    for name in stored[share]:
         os.remove(os.path.join(CRATE, name))
+    stored[share] = made
     for name, data in made.items():
         if name in SHARED:
-            data = others.get(name, b"") + data if keys else data + others.get(name, b"")
+            data = b"".join(files.get(name, b"") for files in stored)
         with open(os.path.join(CRATE, name), "wb") as target:
             target.write(data)
 

@@ -392,8 +392,8 @@ def main() -> int:
         print("too few of: %s" % "; ".join(missing), file=sys.stderr)
         return 1
     if chosen.check:
-        return scenarios.check(made, keys=True)
-    scenarios.write(made, keys=True)
+        return scenarios.check(made, scenarios.KEYS)
+    scenarios.write(made, scenarios.KEYS)
     for name, data in made.items():
         print("%10d %s" % (len(data), name))
     return 0

@@ -8,6 +8,11 @@ from typing import Iterable, List, Sequence
 from rules import header_refusal, open_job, read_job, result_length
 
 
+# Titles and columns of the tables of a job.
+TABLES = (("elements, lowest first", ("solids nm", "water nm")), ("first curve", ("stress mPa", "void ratio 1e-8")),
+          ("second curve", ("void ratio 1e-8", "conductivity fm/s")), ("load table", ("time s", "load mPa")))
+
+
 def table_rows(title: str, heads: Sequence[str], rows: Iterable[Sequence[int]]) -> List[str]:
     """A titled table with a column of row numbers."""
     lines = ["", title, "%5s" % "no." + "".join("%24s" % head for head in heads)]
@@ -26,10 +31,9 @@ def describe_job(data: bytes) -> List[str]:
              "specific gravity %d thousandths" % job.gravity,
              "top level %d nm, bottom level %d nm" % (job.top_level, job.bottom_level),
              "end %d s, budget %d steps" % (job.end, job.budget)]
-    lines += table_rows("elements, lowest first", ["solids nm", "water nm"], job.elements)
-    lines += table_rows("first curve", ["stress mPa", "void ratio 1e-8"], job.curve1)
-    lines += table_rows("second curve", ["void ratio 1e-8", "conductivity fm/s"], job.curve2)
-    return lines + table_rows("load table", ["time s", "load mPa"], job.table)
+    for (title, heads), rows in zip(TABLES, (job.elements, job.curve1, job.curve2, job.table)):
+        lines += table_rows(title, heads, rows)
+    return lines
 
 
 def describe_result(data: bytes) -> List[str]:
