@@ -1,13 +1,15 @@
 #!/usr/bin/env python3
-"""Writes cases for tests/harness.c to standard output: jobs, lengths of result buffers, and the reference's answers.
+"""Writes cases for tests/harness.c to standard output: jobs and descriptions, lengths of the buffers that they are
+worked into, and the reference's answers.
 
     python3 make_cases.py SEED COUNT
 
-The same seed and count always give the same cases, at least COUNT of them.
+The same seed and count always give the same cases, at least COUNT jobs and then at least COUNT descriptions.
 
-OUTPUT  Words are 64 bits, little-endian. For each case: 1; bytes of the job; room (bytes of the result buffer); number
-        that the key has to return; bytes that it has to write at the start of the buffer, none if the job is refused;
-        the job; the bytes to be written. After the last case a 0 and the number of cases.
+OUTPUT  Words are 64 bits, little-endian. For each case: kind (1 a job for the key, 2 a description for the writer of
+        jobs); bytes of the job or of the description's words; room (bytes of the buffer); number that has to be
+        returned; bytes that have to be written at the start of the buffer, none if it is refused; the job or the
+        words; the bytes to be written. After the last case a 0 and the number of cases.
 """
 
 from __future__ import annotations
@@ -16,12 +18,14 @@ import argparse
 import os
 import struct
 import sys
-from typing import Callable, Iterator, List, Tuple
+from typing import Callable, Iterator, List, Sequence, Tuple
 
 HERE = os.path.dirname(os.path.abspath(__file__))
 sys.path.insert(0, HERE)
 
 import damage  # noqa: E402
+import description_cases as descriptions  # noqa: E402
+import make_descriptions  # noqa: E402
 import makers  # noqa: E402
 import rules  # noqa: E402
 from chance import Chance  # noqa: E402
@@ -32,13 +36,22 @@ SHORT_RUN, LONG_RUN = 150, 20_000  # element-steps of a run
 SMALL = 400                        # bytes of a small job
 MOST_ROOM = 8_192
 
+KEY_CASE, WRITER_CASE = 1, 2
+
 
 def case_bytes(vector: Vector) -> bytes:
-    """A case with the reference's answer."""
+    """A case of a job, with the reference's answer."""
     buffer = bytearray(vector.room)
     number = rules.key_into(vector.job, buffer)
     result = b"" if number else bytes(buffer[:needed(vector.job)])
-    return words([1, len(vector.job), vector.room, number, len(result)]) + vector.job + result
+    return words([KEY_CASE, len(vector.job), vector.room, number, len(result)]) + vector.job + result
+
+
+def description_case_bytes(vector: make_descriptions.Vector) -> bytes:
+    """A case of a description, with the reference's answer; a job that is written is read back as well."""
+    worked = make_descriptions.Worked(vector)
+    job = worked.job or b""
+    return words([WRITER_CASE, len(vector.body), vector.room, worked.number, len(job)]) + vector.body + job
 
 
 # ----------------------------------------------------------------------------------------------------------------
@@ -130,41 +143,69 @@ def random_bytes(chance: Chance) -> Iterator[Vector]:
 FAMILIES: List[Tuple[int, Callable[[Chance], Iterator[Vector]]]] = [
     (6, truncations), (16, headers), (10, rooms), (4, random_bytes), (26, damaged)]
 LONG_RUNS = 1_000  # one longer run in so many cases
+FIRST_DESCRIPTION = 2**31  # number of the group before the first of descriptions
+
+
+class Groups:
+    """Groups of cases; each depends on the seed and its own number alone."""
+
+    def __init__(self, seed: int, index: int) -> None:
+        self.seed, self.index, self.made = seed, index, 0
+
+    def group(self, family: Callable[[Chance], Iterator]) -> Iterator:
+        """The next group of a family."""
+        self.index += 1
+        for vector in family(Chance(self.seed, self.index)):
+            self.made += 1
+            yield vector
+
+    def until(self, count: int, family: Callable[[Chance], Iterator]) -> Iterator:
+        """Groups of a family until there are so many cases."""
+        while self.made < count:
+            yield from self.group(family)
+
+    def shares(self, count: int, families: Sequence[Tuple[int, Callable[[Chance], Iterator]]]) -> Iterator:
+        """Groups of every family, up to its share of a count."""
+        bound = 0
+        for share, family in families:
+            bound += count * share // 100
+            yield from self.until(bound, family)
 
 
 def cases(seed: int, count: int) -> Iterator[Vector]:
-    """At least so many cases."""
+    """At least so many jobs."""
     makers.AFFORDABLE = SHORT_RUN
-    made = index = 0
-
-    def group(family: Callable[[Chance], Iterator[Vector]]) -> Iterator[Vector]:
-        nonlocal made, index
-        index += 1
-        for vector in family(Chance(seed, index)):
-            made += 1
-            yield vector
-
-    bound = 0
-    for share, family in FAMILIES:
-        bound += count * share // 100
-        while made < bound:
-            yield from group(family)
+    groups = Groups(seed, 0)
+    yield from groups.shares(count, FAMILIES)
     for _ in range(count // LONG_RUNS):
-        yield from group(long_run)
-    while made < count:
-        yield from group(sound)
+        yield from groups.group(long_run)
+    yield from groups.until(count, sound)
+
+
+def description_cases(seed: int, count: int) -> Iterator[make_descriptions.Vector]:
+    """At least so many descriptions."""
+    makers.AFFORDABLE = SHORT_RUN
+    groups = Groups(seed, FIRST_DESCRIPTION)
+    yield from groups.shares(count, descriptions.FAMILIES)
+    yield from groups.until(count, descriptions.sound)
+
+
+def all_cases(seed: int, count: int) -> Iterator[bytes]:
+    """The bytes of all cases, jobs first."""
+    yield from map(case_bytes, cases(seed, count))
+    yield from map(description_case_bytes, description_cases(seed, count))
 
 
 def main() -> int:
     """Write the cases of a command line."""
     parser = argparse.ArgumentParser(description=__doc__, formatter_class=argparse.RawDescriptionHelpFormatter)
     parser.add_argument("seed", type=int, metavar="SEED", help="a whole number of 0 or more")
-    parser.add_argument("count", type=int, metavar="COUNT", help="how many cases at least")
+    parser.add_argument("count", type=int, metavar="COUNT", help="how many jobs and how many descriptions at least")
     chosen = parser.parse_args()
     written = 0
     try:
-        for vector in cases(chosen.seed, chosen.count):
-            sys.stdout.buffer.write(case_bytes(vector))
+        for data in all_cases(chosen.seed, chosen.count):
+            sys.stdout.buffer.write(data)
             written += 1
         sys.stdout.buffer.write(words([0, written]))
         sys.stdout.flush()
