@@ -45,7 +45,8 @@ from make_vectors import FILLER, MANY, MOST_BYTES  # noqa: E402
 from rules import DESCRIPTION_WORDS, HEADER_WORDS, Description, Job  # noqa: E402
 
 SEED = 50_000
-DRAWN = 100  # drawn vectors
+DRAWN = 65   # drawn vectors, sound and damaged
+AGAIN = 35   # drawn jobs that are read and written again
 WRITTEN = 0  # stands for an answer that is a length
 ANSWERS = (WRITTEN, 3, 5, 6, 7, 8, 9, 17)
 ENDS = {5: 268, 6: 396, 7: 524, 8: 652, 9: 652}  # the words that causes up to this one look at
@@ -71,7 +72,7 @@ def cut_body(numbers: Sequence[int]) -> bytes:
 
 def needed(description: Description) -> int:
     """Length of the job that a description asks for, as far as its counts fit."""
-    return rules.job_length(min(count, limits[1]) for count, limits in zip(description.counts(), rules.COUNTS))
+    return rules.job_length([min(count, limits[1]) for count, limits in zip(description.counts(), rules.COUNTS)])
 
 
 def fitting(description: Description, more: int = 0) -> Vector:
@@ -373,6 +374,17 @@ def drawn_vector(index: int) -> Vector:
             return Vector(cut_body(description.words()), drawn_room(chance, description))
 
 
+def drawn_again(index: int) -> Vector:
+    """The description that a drawn job is read as, which has to be written as that job."""
+    chance = Chance(SEED, DRAWN + index)
+    while True:
+        job = scenarios.drawn_job(chance, 10)
+        if rules.open_job(job)[0] == rules.ACCEPTED:
+            vector = fitting(rules.read_description(job), chance.pick([0, 0, 1, 24]))
+            assert Worked(vector).job == job
+            return vector
+
+
 # ----------------------------------------------------------------------------------------------------------------
 # The files
 # ----------------------------------------------------------------------------------------------------------------
@@ -445,7 +457,8 @@ def all_vectors() -> Dict[str, List[Vector]]:
             "job_refused": expected(refused()), "job_points": expected(places_in_64()),
             "job_causes": expected(several_causes()), "job_rooms": expected(rooms()),
             "job_words": list(word_lists()), "job_places": expected(places_past_counts()),
-            "job_drawn": [drawn_vector(index) for index in range(DRAWN)]}
+            "job_drawn": [drawn_vector(index) for index in range(DRAWN)],
+            "job_again": [drawn_again(index) for index in range(AGAIN)]}
 
 
 def vector_bytes(vector: Vector) -> bytes:

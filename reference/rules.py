@@ -641,10 +641,6 @@ class Description:
     time: List[int]
     load: List[int]
 
-    def copy(self) -> Description:
-        """Another description with the same numbers."""
-        return description_of(self.words())
-
     def words(self) -> List[int]:
         """All its numbers, in the order of their words."""
         values = list(vars(self).values())
@@ -695,7 +691,7 @@ def described_job(description: Description) -> Job:
 
 
 def description_refusal(description: Description) -> int:
-    """Refusal of a description by the tests of an opening that look at more than bytes, else 0."""
+    """Refusal of a description by those tests of an opening that its numbers can fail, else 0."""
     d = description
     if not is_stated_header(d.top, d.bottom, d.start, d.counts(), d.gravity):
         return BAD_HEADER
