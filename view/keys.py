@@ -6,7 +6,7 @@ import os
 import re
 import struct
 import subprocess
-from typing import List, NamedTuple, Union
+from typing import List, NamedTuple, Optional, Union
 
 YEAR_DAYS = 365
 
@@ -28,6 +28,7 @@ REFUSALS = {
     8: "the load table is outside its limits, does not begin at time 0, or its times do not rise",
     9: "an element has no start on the compressibility curve",
     10: "the buffer is shorter than the result",
+    17: "the buffer is shorter than the job",
 }
 
 
@@ -77,21 +78,31 @@ def job_bytes(path: str) -> bytes:
         raise NoAnswer("%s: %s" % (path, error.strerror)) from error
 
 
-def ask(program: str, job: bytes) -> Union[Key, Refusal]:
-    """What the program answers to a job."""
+def written(program: str, data: bytes) -> bytes:
+    """What a program writes when it reads some bytes."""
     command = os.path.abspath(program) if os.path.exists(program) else program
     try:
-        ended = subprocess.run([command], input=job, stdout=subprocess.PIPE, check=False)
+        return subprocess.run([command], input=data, stdout=subprocess.PIPE, check=False).stdout
     except OSError as error:
         raise NoAnswer("%s: %s" % (program, error.strerror)) from error
-    return read_answer(ended.stdout)
+
+
+def read_refusal(answer: bytes) -> Optional[Refusal]:
+    """The refusal that the bytes of an answer are, if they are one."""
+    refused = re.fullmatch(rb"refused ([0-9]+)\n", answer)
+    return Refusal(int(refused.group(1))) if refused else None
+
+
+def ask(program: str, job: bytes) -> Union[Key, Refusal]:
+    """What the program answers to a job."""
+    return read_answer(written(program, job))
 
 
 def read_answer(answer: bytes) -> Union[Key, Refusal]:
     """A key or a refusal from the bytes that the program writes."""
-    refused = re.fullmatch(rb"refused ([0-9]+)\n", answer)
-    if refused:
-        return Refusal(int(refused.group(1)))
+    refusal = read_refusal(answer)
+    if refusal:
+        return refusal
     if len(answer) < 56 or answer[:5] != b"LSR\1\0" or len(answer) != 56 + 40 * answer[6]:
         raise NoAnswer("the program wrote neither a key nor a refusal (%d bytes)" % len(answer))
     rows = [Element(*struct.unpack_from("<QQQqq", answer, at)) for at in range(56, len(answer), 40)]

@@ -22,13 +22,13 @@ from xml.sax.saxutils import escape
 
 sys.path.insert(0, os.path.dirname(os.path.abspath(__file__)))
 
-from keys import Key, NoAnswer, Refusal, ask, counted, job_bytes, stop_words  # noqa: E402
+from keys import YEAR_DAYS, Key, NoAnswer, Refusal, ask, counted, job_bytes, stop_words  # noqa: E402
 
 ENDS = 40       # ends at equal distances in the square root of time, besides 0 and the load table's times
 PROFILES = 6
 
 MINUTE, HOUR, DAY = 60, 3_600, 86_400
-YEAR = 365 * DAY
+YEAR = YEAR_DAYS * DAY
 TIME_UNITS = [(3 * YEAR, YEAR, "years"), (3 * DAY, DAY, "days"), (3 * HOUR, HOUR, "hours"), (3 * MINUTE, MINUTE, "min")]
 LENGTH_UNITS = [(1_000_000_000, 1_000_000_000, "m"), (1_000_000, 1_000_000, "mm"), (1_000, 1_000, "µm")]
 STRESS_UNITS = [(1_000_000, 1_000_000, "kPa"), (1_000, 1_000, "Pa")]
