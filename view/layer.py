@@ -52,7 +52,8 @@ def words(layer: Layer) -> bytes:
                layer.end, layer.budget]
     for column in (layer.solids, layer.water):
         numbers += filled(column, ELEMENT_PLACES)
-    for column in (layer.stresses, layer.voids, layer.conductivity_voids, layer.conductivities, layer.times, layer.loads):
+    for column in (layer.stresses, layer.voids, layer.conductivity_voids, layer.conductivities, layer.times,
+                   layer.loads):
         numbers += filled(column, POINT_PLACES)
     return struct.pack("<%dQ" % len(numbers), *numbers)
 

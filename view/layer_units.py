@@ -92,8 +92,8 @@ def shown(value: object) -> str:
         return "true" if value else "false"
     if isinstance(value, (dict, list)):
         return "a table" if isinstance(value, dict) else "an array"
-    if isinstance(value, int) and abs(value) >= 10**40:
-        return "a whole number of more than 40 digits"
+    if isinstance(value, int):
+        value = Decimal(value)  # whose digits can be written however many there are
     words = repr(value) if isinstance(value, str) else str(value).lower()
     return words if len(words) <= 60 else words[:40] + "..."
 
