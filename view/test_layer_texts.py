@@ -622,7 +622,8 @@ rows = [
 
     def test_times(self) -> None:
         for end, line in ((0, "end_years = 0"), (31_536_000 * 12, "end_years = 12"),
-                          (31_536_000 + 86_400, "end_days = 366"), (86_401, "end_s = 86401"), (3_000_000_000, "end_s = 3000000000")):
+                          (31_536_000 + 86_400, "end_days = 366"), (86_401, "end_s = 86401"),
+                          (3_000_000_000, "end_s = 3000000000")):
             self.assertIn("\n%s\n" % line, self.described(rules.job_bytes(replace(JOB, end=end)))[1])
         table = [(0, 15_000_000), (86_400 * 365, 1), (86_400 * 366, 2_000_000)]
         text = self.described(rules.job_bytes(replace(JOB, table=table)))[1]
