@@ -6,11 +6,11 @@ import difflib
 import re
 import tomllib
 from decimal import Decimal, InvalidOperation
-from typing import Dict, List, NamedTuple, Sequence, Tuple
+from typing import Dict, List, NamedTuple, Sequence, Tuple, Union
 
 from keys import counted, job_bytes
 from layer import AT_REST, CLOSED, DRAINED, ELEMENT_PLACES, GIVEN, Layer
-from layer_units import END_KEYS, KINDS, TIME_KEYS, BadText, shown, whole
+from layer_units import END_KEYS, KINDS, TIME_KEYS, BadText, OutOfReach, shown, whole
 
 Values = Dict[str, object]
 
@@ -47,12 +47,12 @@ MARKED = re.compile(r"[0-9][,.' _\u00a0\u2009\u2019\u202f][0-9]")    # digits wi
 # Keys and single values
 # ----------------------------------------------------------------------------------------------------------------
 
-def exact_decimal(text: str) -> Decimal:
+def exact_decimal(text: str) -> Union[Decimal, OutOfReach]:
     """A number as it is written."""
     try:
         return Decimal(text)
     except InvalidOperation:
-        raise BadText("%s has an exponent that is out of reach" % shown(text)) from None
+        return OutOfReach(text)
 
 
 def parsed(data: bytes) -> Values:
@@ -142,15 +142,12 @@ def pasted(text: str) -> List[List[str]]:
     return [[cell.strip(" ") for cell in re.split(r"\t+" if "\t" in row else " +", row.strip(" \t"))] for row in rows]
 
 
-def cell_number(cell: str, where: str) -> Decimal:
+def cell_number(cell: str, where: str) -> Union[Decimal, OutOfReach]:
     """The number that a cell of a pasted text is."""
     if not CELL.fullmatch(cell):
         hint = "; a number has a point before its decimals and no other mark" if MARKED.search(cell) else ""
         raise BadText("%s: %s is not a number%s" % (where, shown(cell), hint))
-    try:
-        return exact_decimal(cell)
-    except BadText as fault:
-        raise BadText("%s: %s" % (where, fault)) from fault
+    return exact_decimal(cell)
 
 
 def read_row(row: object, names: Sequence[str], text: bool, where: str) -> List[int]:

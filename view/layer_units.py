@@ -35,6 +35,15 @@ class BadText(NoAnswer):
     """A text that gives no layer: where, and what is wrong."""
 
 
+class OutOfReach(NamedTuple):
+    """A number that is written with an exponent greater than any Decimal has."""
+
+    text: str
+
+    def __str__(self) -> str:
+        return self.text
+
+
 METRE = Unit("m", 10**9, "nm")
 KILOPASCAL = Unit("kPa", 10**6, "mPa")
 SPEED = Unit("m/s", 10**15, "fm/s", scientific=True)
@@ -100,6 +109,8 @@ def shown(value: object) -> str:
 
 def whole(value: object, unit: Unit, where: str) -> int:
     """A number of the text in the paper's unit, of which it has to be a whole number that fits 64 bits."""
+    if isinstance(value, OutOfReach):
+        raise BadText("%s: %s has an exponent that is out of reach" % (where, shown(value)))
     if isinstance(value, bool) or not isinstance(value, (int, Decimal)) or not Decimal(value).is_finite():
         kind = "a text, not a number" if isinstance(value, str) else "not a number"
         raise BadText("%s: %s is %s" % (where, shown(value), kind))

@@ -275,7 +275,7 @@ class BadTexts(Texts):
         self.assert_bad(changed("budget = 1000", "budget = " + "9" * 5_000).encode(),
                         "line 8 has a whole number that is too long to be read")
         self.assert_bad(changed("budget = 1000", "budget = 1e" + "9" * 30).encode(),
-                        "'1e%s' has an exponent that is out of reach" % ("9" * 30))
+                        "budget: 1e%s has an exponent that is out of reach" % ("9" * 30))
 
     def test_keys(self) -> None:
         for changes, wrong in (
@@ -306,6 +306,7 @@ class BadTexts(Texts):
     def test_words(self) -> None:
         for changes, wrong in (
                 (('"drained"', '"open"'), 'top: \'open\' is neither "closed" nor "drained"'),
+                (('"drained"', "1e" + "9" * 20), 'top: 1e%s is neither "closed" nor "drained"' % ("9" * 20)),
                 (('"closed"', "false"), 'bottom: false is neither "closed" nor "drained"'),
                 (('"given"', '["rest"]'), 'start: an array is neither "given" nor "rest"'),
                 (("[elements]\nsolids_m", "[elements.x]\nsolids_m"), "elements.x: there is no such key; the keys here "
@@ -354,7 +355,7 @@ class BadTexts(Texts):
                  "conductivity.rows, row 2, conductivity_m_per_s: -2e-10 m/s is negative"),
                 (("2    2e-10", "2 1e-16"), "conductivity.rows, row 2, conductivity_m_per_s: 1e-16 m/s is no whole "
                  "number of fm/s"),
-                (("2    2e-10", "2 1e" + "9" * 30), "conductivity.rows, row 2, conductivity_m_per_s: '1e%s' has an "
+                (("2    2e-10", "2 1e" + "9" * 30), "conductivity.rows, row 2, conductivity_m_per_s: 1e%s has an "
                  "exponent that is out of reach" % ("9" * 30)),
                 (('"stress_kPa", "void_ratio"]', '"stress_kPa"]'), "compressibility.columns: has to be an array of two "
                  "names, stress_kPa and void_ratio"),
