@@ -2,7 +2,7 @@
 
 from __future__ import annotations
 
-from typing import List, Sequence
+from typing import Dict, List, Sequence
 
 from layer import DRAINED, GIVEN, Layer
 from layer_text import FACES, STARTS
@@ -20,7 +20,7 @@ def in_text_units(layer: Layer) -> Layer:
                           time_key="time_%s" % greatest_unit(layer.times))
 
 
-def word(meanings: dict, number: int) -> str:
+def word(meanings: Dict[str, int], number: int) -> str:
     """The word of a meaning, in quotes."""
     return '"%s"' % next(name for name, meaning in meanings.items() if meaning == number)
 
