@@ -38,7 +38,6 @@ module _ (d : Description) (before : List ℕ) where
 
   -- a refused description is not written
   refused : (cause : Refusal) → w ≡ refusedWriting cause before → (size : ℕ) → w .answer ≡ Length size → ⊥
-  unfolding refusedWriting
   refused cause e size is = refused-length cause size (sym (ap (λ (x : Writing). x .answer) e) ∙ is)
 
   reads : (size : ℕ) → w .answer ≡ Length size → ReadAgain d (take size (w .buffer))

@@ -55,12 +55,12 @@ pub record Writing : Type 0 where
   pub answer : Written
   pub buffer : List ℕ
 
-unfoldable pub refusedWriting : Refusal → (buffer : List ℕ) → Writing
+abbrev pub refusedWriting : Refusal → (buffer : List ℕ) → Writing
 refusedWriting cause buffer = record { answer = Refused cause; buffer = buffer }
 
 -- refused for the causes 3 and 5 to 9, then for 17; otherwise the job's bytes in the first places, and their length
 unfoldable pub writing : Description → (buffer : List ℕ) → Writing
-unfolding accepted refusedWriting jobLength jobBytes overlaid
+unfolding accepted jobLength jobBytes overlaid
 writing d buffer =
     elim (accepted d) [
       | acceptance.Refused cause ↦ refusedWriting cause buffer

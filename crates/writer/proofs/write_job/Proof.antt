@@ -9,7 +9,7 @@ use Rattle.rules.specs.Opening.{accepted}
 use Rattle.rules.specs.declared.answers.Acceptance.the-variants.{Accepted}
 use Rattle.rules.specs.declared.record.Frame.{Frame}
 use Rattle.rules.specs.declared.record.Progress.{Progress}
-use Rattle.writer.specs.Writing.{Writing, writing, writtenNumber, writingNumber, refusedWriting}
+use Rattle.writer.specs.Writing.{Writing, writing, writtenNumber, writingNumber}
 use Rattle.writer.specs.declared.Written.{Written}
 use Rattle.writer.specs.declared.Written.the-variants.{Length}
 use Rattle.writer.specs.RoundTrips.{RoundTrips}
@@ -61,7 +61,6 @@ answers d buffer e =
     (is, (sym (ap (λ (w : Writing). w .buffer) e), (ap writtenNumber is, subst (λ (w : Writing). RoundTrips d buffer (w .answer) (w .buffer)) e (round-trips d buffer))))
 
 returns : tie.Need-returns
-unfolding refusedWriting
 returns c =
     let l = c .before in
     let t = l .before in
@@ -75,7 +74,6 @@ write-bytes-requires c κs =
     (accepted-header (d t) (is-accepted t), rw (l .job-length .ensures) at (c .before .if1 .left))
 
 returns-2 : tie.Need-returns-2
-unfolding refusedWriting
 returns-2 c =
     let k = c .before in
     let a = k .before .before in
