@@ -1,0 +1,3 @@
+-- Fields past the last byte, and what one number tells.
+pub mod CutFields
+pub mod OneNumber

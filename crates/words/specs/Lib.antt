@@ -1,0 +1,2 @@
+-- What the contracts of words cite beside the rules.
+pub mod Words
