@@ -16,6 +16,8 @@ use rules::job::Header;
 use rules::record::Frame;
 use rules::record::Progress;
 
+pub mod written_job;
+
 // Runs a layer that is lent by its parts with its burdens to its header's end within its budget, and writes its result. Where that
 // has no room, there is no run.
 pub fn run_to_result<'a>(
