@@ -1,2 +1,3 @@
--- The numbers of the causes.
+-- The numbers of the causes, and a refusal's line.
 pub mod Causes
+pub mod RefusedLine

@@ -1,6 +1,10 @@
-// Answers, causes and stops as the paper's numbers.
+// Answers, causes and stops as the paper's numbers, and the line that says a refusal.
+ghost use lib.ListN.{length};
 ghost use mathlib.Core.Path.{_≡_};
+ghost use Prim.Native.Nat.{_≤_, _<_};
+ghost use Rattle.numbers.specs.Arrays.{overlaid};
 ghost use Rattle.rules.specs.Outcome.{answerNumber};
+ghost use Rattle.rules.specs.Program.{refusedLine};
 ghost use Rattle.rules.specs.Refusals.{refusalNumber};
 ghost use Rattle.rules.specs.Run.{stopNumber};
 use rules::answers::Answer;
@@ -53,4 +57,28 @@ pub fn answer_number(answer: Answer) -> u64
         Answer::Ran(_, _) => 0,
         Answer::Refused(cause) => refusal_number(cause),
     }
+}
+
+// Stores "refused", a number and a line's end at the start of a buffer, and gives their length.
+pub fn refused_line(number: u32, out: &mut [u8]) -> usize
+    requires { ⌜ (number < 100) × (16 ≤ length (now out)) ⌝ }
+    ensures { λ r. ⌜ (now (out .exit) ≡ overlaid (refusedLine number) (now (out .entry))) × (r ≡ length (refusedLine number)) ⌝ }
+{
+    out[0] = b'r';
+    out[1] = b'e';
+    out[2] = b'f';
+    out[3] = b'u';
+    out[4] = b's';
+    out[5] = b'e';
+    out[6] = b'd';
+    out[7] = b' ';
+    if number < 10 {
+        out[8] = 48 + number as u8;
+        out[9] = b'\n';
+        return 10;
+    }
+    out[8] = 48 + (number / 10) as u8;
+    out[9] = 48 + (number % 10) as u8;
+    out[10] = b'\n';
+    11
 }

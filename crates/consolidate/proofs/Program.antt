@@ -1,19 +1,18 @@
 -- What the key returns, and what is written for it.
-use Prim.Native.Nat.{ℕ, _+_, _/_, _%_, _≤_, _<_}
+use Prim.Native.Nat.{ℕ, _≤_}
 use native.Mathlib.Omega.{arith}
-use borrow.Author.Tests.{lt-ltb, le-ltb, eq-eqb, ne-eqb}
+use borrow.Author.Tests.{eq-eqb, ne-eqb}
 use lib.Dec.{eqb, ltb, nltb→le}
-use lib.ListN.{length, take, drop, length-append, length-replicate}
-use lib.Seq.{sets, take-all, length-take-le}
+use lib.ListN.{length, take, length-replicate}
+use lib.Seq.{take-all, length-take-le}
 use mathlib.Core.Bool.{Bool, true, false, not}
 use mathlib.Core.Logic.{⊎-elim}
-use mathlib.Core.List.{List, [], _∷_}
+use mathlib.Core.List.{List}
 use mathlib.Core.Path.{_≡_, refl, sym, ap, _∙_}
 use Rattle.answers.proofs.Causes.{cause-numbered}
 use Rattle.claims.proofs.Described.{described-sound}
 use Rattle.claims.proofs.Causes.{neither, none-holds}
 use Rattle.claims.proofs.Opened.{opening-either, opened}
-use Rattle.encoding.proofs.Stores.{sets-front}
 use Rattle.laws.specs.Every.{Every}
 use Rattle.laws.proofs.SoundHeader.{kept-header}
 use Rattle.key.proofs.KeyLaws.{key-refused, key-leaves}
@@ -21,7 +20,7 @@ use Rattle.numbers.specs.Arrays.{zeros, overlaid}
 use Rattle.rules.specs.Job.{described, headerLength, marked, framingCauses, jobCauses}
 use Rattle.rules.specs.Key.{key}
 use Rattle.rules.specs.Opening.{refusedOpening, opening}
-use Rattle.rules.specs.Program.{digits, refusedLine, inputMost, programOutput}
+use Rattle.rules.specs.Program.{refusedLine, inputMost, programOutput}
 use Rattle.quantities.specs.Quantities.{elementLimits}
 use Rattle.rules.specs.Refusals.{refusalNumber}
 use Rattle.rules.specs.Result.{Returned, refusedResult, resultSize, resultMost}
@@ -115,25 +114,3 @@ module _ (job buffer : List ℕ) (short : length job ≤ inputMost) (blank : buf
   refusal-written last size h line =
       let left : out ≡ buffer = out-is ∙ key-leaves job buffer .refused-whole (rw number-is at h) in
       (line .0 ∙ rw (refusal-is h, left) refl, line .1 ∙ ap length (refusal-is h))
-
--- what is written fits where it is written
-pub written-fits : (bytes buffer out : List ℕ) (size : ℕ) → (out ≡ overlaid bytes buffer) × (size ≡ length bytes) → size ≤ length out
-unfolding overlaid
-written-fits bytes buffer out size w = rw (w .0, w .1) (omega (arith, length-append bytes (drop (length bytes) buffer)))
-
--- ---- a refusal's line
-
-module _ (number : ℕ) (l : List ℕ) (room : 16 ≤ length l) where
-  -- one digit
-  pub line-of-10 : number < 10 →
-      (sets l 0 (114 ∷ 101 ∷ 102 ∷ 117 ∷ 115 ∷ 101 ∷ 100 ∷ 32 ∷ (48 + number) ∷ 10 ∷ []) ≡ overlaid (refusedLine number) l) ×
-      (10 ≡ length (refusedLine number))
-  unfolding refusedLine digits
-  line-of-10 h = rw (lt-ltb number 10 h) (sets-front l _ (omega arith), refl)
-
-  -- two digits
-  pub line-of-11 : 10 ≤ number →
-      (sets l 0 (114 ∷ 101 ∷ 102 ∷ 117 ∷ 115 ∷ 101 ∷ 100 ∷ 32 ∷ (48 + number / 10) ∷ (48 + number % 10) ∷ 10 ∷ []) ≡ overlaid (refusedLine number) l) ×
-      (11 ≡ length (refusedLine number))
-  unfolding refusedLine digits
-  line-of-11 h = rw (le-ltb number 10 h) (sets-front l _ (omega arith), refl)

@@ -3,7 +3,7 @@ use mathlib.Core.Path.{refl, sym}
 use Rattle.numbers.specs.Arrays.{zeros}
 use Rattle.rules.specs.Result.{resultSize}
 use borrow.Author.Needs.{needs}
-use Rattle.consolidate.proofs.Program.{written-fits}
+use Rattle.answers.proofs.RefusedLine.{written-fits}
 use Rattle.consolidate.proofs.main.Statement.{statement}
 use Rattle.consolidate.proofs.main.Tie as tie
 

@@ -1,9 +1,9 @@
 use native.Mathlib.Omega.{arith}
 use lib.ListN.{length-set}
 use borrow.Author.Needs.{needs}
-use Rattle.consolidate.proofs.Program.{line-of-10, line-of-11}
-use Rattle.consolidate.proofs.refused_line.Statement.{statement}
-use Rattle.consolidate.proofs.refused_line.Tie as tie
+use Rattle.answers.proofs.RefusedLine.{line-of-10, line-of-11}
+use Rattle.answers.proofs.refused_line.Statement.{statement}
+use Rattle.answers.proofs.refused_line.Tie as tie
 
 slice-write-out : tie.Need-slice-write-out
 slice-write-out c = search needs
