@@ -1,0 +1,2 @@
+-- The proofs of `compose`.
+pub mod Composing

@@ -1,0 +1,70 @@
+use native.Mathlib.Omega.{arith}
+use lib.ListN.{length}
+use mathlib.Core.Path.{_≡_, ap, _∙_}
+use Rattle.compose.specs.Composed.{jobMost}
+use Rattle.compose.proofs.Composing.{job-composed, refusal-composed}
+use Rattle.numbers.proofs.Filled.{length-zeros}
+use borrow.Author.Needs.{needs}
+use Rattle.compose.proofs.answer.Statement.{statement}
+use Rattle.compose.proofs.answer.Tie as tie
+
+slice-aggregate-read-words : tie.Need-slice-aggregate-read-words
+slice-aggregate-read-words c = search needs
+
+read-words-requires : tie.Need-read-words-requires
+read-words-requires c κs = search needs
+
+slice-aggregate-consolidation-job : tie.Need-slice-aggregate-consolidation-job
+slice-aggregate-consolidation-job c = search needs
+
+consolidation-job-requires : tie.Need-consolidation-job-requires
+consolidation-job-requires c κs = search needs
+
+cast-refused-line : tie.Need-cast-refused-line
+cast-refused-line c = search needs
+
+-- the buffer keeps its length
+kept : (k : tie.After-consolidation-job) →
+    length (k .consolidation-job .last .1 .0) ≡ length (k .before .before .before .before .before .before .before .before .args .out .now)
+kept k = search needs
+
+room : (k : tie.After-consolidation-job) → length (k .consolidation-job .last .1 .0) ≡ jobMost
+room k = kept k ∙ ap length (k .before .before .before .before .before .before .before .before .pre) ∙ length-zeros jobMost
+
+refused-line-requires : tie.Need-refused-line-requires
+refused-line-requires c κs = let long = room (c .before .before .before .before) in (omega arith, omega arith)
+
+same-length : tie.Need-same-length
+same-length c = search needs
+
+returns : tie.Need-returns
+returns c =
+    let f = c .before .before in
+    let t = f .before .before in
+    let k = t .before .before .before in
+    let s = k .before .before .before .before .before .before .before .before in
+    refusal-composed (s .args .input .now) (s .args .out .now) _ _ _ (s .pre) (k .before .before .before .before .read-words .ensures) (k .consolidation-job .ensures .0) (k .consolidation-job .ensures .1) _ _ (t .if1 .taken) (f .refused-line .ensures)
+
+same-length-2 : tie.Need-same-length-2
+same-length-2 c = search needs
+
+returns-2 : tie.Need-returns-2
+returns-2 c =
+    let k = c .before .before .before in
+    let s = k .before .before .before .before .before .before .before .before in
+    job-composed (s .args .input .now) (s .args .out .now) _ _ _ (s .pre) (k .before .before .before .before .read-words .ensures) (k .consolidation-job .ensures .0) (k .consolidation-job .ensures .1) (kept k) (c .if1 .left)
+
+pub answer-spec : {M : Type 1} → statement M
+answer-spec =
+    tie.close
+    (tie.spec
+    slice-aggregate-read-words
+    read-words-requires
+    slice-aggregate-consolidation-job
+    consolidation-job-requires
+    cast-refused-line
+    refused-line-requires
+    same-length
+    returns
+    same-length-2
+    returns-2)

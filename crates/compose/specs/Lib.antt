@@ -1,0 +1,2 @@
+-- What the contract of compose cites beside the rules.
+pub mod Composed
