@@ -1,4 +1,5 @@
-// Answers lists of calls and works jobs from files and writes every answer, state and result, for comparison with another program's.
+// Answers lists of calls, works jobs and writes those of descriptions, all from files, and writes every answer, state, result and job, for
+// comparison with another program's.
 mod print;
 
 ghost use lib.ListN.{length as ListN·length};
@@ -111,13 +112,40 @@ fn answer_key(job: &[u8], room: usize) -> bool {
     true
 }
 
-// Answers a block whose body is read; false where it is not of the right form. Its kind: 0 a list on a job, 2 a job for the key, any
-// other a list on a record.
-fn answer_block(fd: i32, number: u64, kind: u64, body: &[u8], count: usize) -> bool {
-    if kind == 2 {
-        answer_key(body, count)
-    } else {
-        read_list(fd, number, kind, body, count)
+// Writes a number's eight bytes.
+fn write_number(number: u64) {
+    let mut bytes = [0u8; 8];
+    encoding::put_word(&mut bytes, 0, number);
+    io::write_all(STDOUT_FILENO, &bytes);
+}
+
+// Writes the job of a description's words in a buffer of so many bytes, and writes the number and the whole buffer; false where it is
+// too long. The last word may lack bytes.
+fn answer_description(body: &[u8], room: usize) -> bool
+    requires { ⌜ ListN·length (now body) ≤ 8_192 ⌝ }
+{
+    if room > MOST {
+        return false;
+    }
+    let mut words = [0u64; 1_024];
+    let count = (body.len() + 7) / 8;
+    words::bytes::read_words(body, &mut words[..count]);
+    let mut job = [165u8; MOST];
+    let number = key::written_job::consolidation_job(&words[..count], &mut job[..room]);
+    write_number(number);
+    io::write_all(STDOUT_FILENO, &job[..room]);
+    true
+}
+
+// Answers a block whose body is read; false where it is not of the right form. Its kind: 0 a list on a job, 2 a job for the key, 3 a
+// description for its job, any other a list on a record.
+fn answer_block(fd: i32, number: u64, kind: u64, body: &[u8], count: usize) -> bool
+    requires { ⌜ ListN·length (now body) ≤ 8_192 ⌝ }
+{
+    match kind {
+        2 => answer_key(body, count),
+        3 => answer_description(body, count),
+        _ => read_list(fd, number, kind, body, count),
     }
 }
 

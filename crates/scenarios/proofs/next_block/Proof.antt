@@ -1,8 +1,9 @@
+use native.Mathlib.Nat.{le-trans}
 use native.Mathlib.Omega.{arith}
 use borrow.Author.Needs.{needs}
 use lib.Seq.{length-take-le}
 use mathlib.Core.Path.{sym}
-use Rattle.scenarios.proofs.Fronts.{front}
+use Rattle.scenarios.proofs.Fronts.{front, front-most}
 use Rattle.scenarios.proofs.next_block.Statement.{statement}
 use Rattle.scenarios.proofs.next_block.Tie as tie
 
@@ -49,7 +50,10 @@ slice-aggregate-answer-block : tie.Need-slice-aggregate-answer-block
 slice-aggregate-answer-block c = sym (length-take-le _ _ (front _ (c .before .before .read-full2 .last .1 .0) _ (omega (arith, c .before .before .read-full2 .ensures .0))))
 
 answer-block-requires : tie.Need-answer-block-requires
-answer-block-requires c κs = search needs
+answer-block-requires c κs =
+    let read = c .before .before .read-full2 in
+    let length = c .before .before .before .before .before .before .before .field2 .result in
+    le-trans {m = length} (front-most _ length _ (read .last .1 .0) _ (read .ensures .0) (read .kept .1 .0)) (omega arith)
 
 returns-2 : tie.Need-returns-2
 returns-2 c = search needs
