@@ -20,7 +20,7 @@ use Rattle.rules.specs.declared.job.Header.{Header}
 use Rattle.words.specs.Words.{wordsDescription, writtenWords}
 use Rattle.writer.proofs.Stores.{job-length}
 use Rattle.writer.proofs.WritingLaws.{cause-writes, short-writes, room-writes}
-use Rattle.writer.specs.Writing.{Writing, jobBytes, refusedWriting, writing, writtenNumber, writingNumber}
+use Rattle.writer.specs.Writing.{Writing, jobBytes, writing, writtenNumber, writingNumber}
 
 -- the number of every refusal is below a header's length, and no job is shorter than that
 pub refusal-below-length : (cause : Refusal) (h : Header) → (refusalNumber cause < headerLength) × (headerLength ≤ jobLength h)
@@ -55,7 +55,7 @@ module _ (buffer : List ℕ) where
   returned w = record { number = writtenNumber (w .answer); buffer = w .buffer }
 
   told : (d : Description) → Told buffer (returned (writing d buffer))
-  unfolding refusedWriting writtenNumber
+  unfolding writtenNumber
   told d = go (accepted d) refl
     where
       go : (a : Acceptance) → accepted d ≡ a → Told buffer (returned (writing d buffer))

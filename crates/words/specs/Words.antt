@@ -8,6 +8,7 @@ use Rattle.numbers.specs.Bytes.{column}
 use Rattle.rules.specs.Job.{Description}
 use Rattle.rules.specs.Result.{Returned}
 use Rattle.rules.specs.declared.job.Header.{Header}
+use Rattle.writer.specs.RoundTrips.{RoundTrips}
 use Rattle.writer.specs.Writing.{writing, writingNumber}
 
 -- where each array begins: two of 128 places, and six of 64
@@ -79,3 +80,8 @@ unfoldable pub writtenWords : (words buffer : List ℕ) → Returned
 unfolding wordsDescription writing writingNumber
 writtenWords words buffer =
     let d = wordsDescription words in record { number = writingNumber d buffer; buffer = (writing d buffer) .buffer }
+
+-- both round trips of their description, by the buffer before and after
+abbrev pub WordsTrips : (words before after : List ℕ) → Type 0
+WordsTrips words before after =
+    let d = wordsDescription words in RoundTrips d before ((writing d before) .answer) after

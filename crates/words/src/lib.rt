@@ -2,7 +2,7 @@
 ghost use lib.ListN.{length, getD};
 ghost use mathlib.Core.Path.{_≡_};
 ghost use Prim.Native.Nat.{_+_, _≤_};
-ghost use Rattle.words.specs.Words.{wordsLength, placesFrom, wordsHeader, writtenWords};
+ghost use Rattle.words.specs.Words.{wordsLength, placesFrom, wordsHeader, writtenWords, WordsTrips};
 ghost use Rattle.writer.specs.Writing.{writtenNumber};
 use rules::job::Header;
 use writer::Written;
@@ -83,6 +83,7 @@ pub fn written_number(written: Written) -> u64
 pub fn write_words(words: &[u64], job: &mut [u8]) -> u64
     ensures { λ r. ⌜ r ≡ (writtenWords (now (words .entry)) (now (job .entry))) .number ⌝ }
     ensures { λ _. ⌜ now (job .exit) ≡ (writtenWords (now (words .entry)) (now (job .entry))) .buffer ⌝ }
+    ensures { λ _. ⌜ WordsTrips (now (words .entry)) (now (job .entry)) (now (job .exit)) ⌝ }
 {
     let header = read_header(words);
     let mut void = [0; 64];
