@@ -43,7 +43,7 @@ returns c =
     let t = f .before .before in
     let k = t .before .before .before in
     let s = k .before .before .before .before .before .before .before .before in
-    refusal-composed (s .args .input .now) (s .args .out .now) _ _ _ (s .pre) (k .before .before .before .before .read-words .ensures) (k .consolidation-job .ensures .0) (k .consolidation-job .ensures .1) _ _ (t .if1 .taken) (f .refused-line .ensures)
+    refusal-composed (s .args .input .now) (s .args .out .now) _ _ _ (s .pre) (k .before .before .before .before .read-words .ensures) (k .consolidation-job .ensures .0) (k .consolidation-job .ensures .1 .0) _ _ (t .if1 .taken) (f .refused-line .ensures)
 
 same-length-2 : tie.Need-same-length-2
 same-length-2 c = search needs
@@ -52,7 +52,7 @@ returns-2 : tie.Need-returns-2
 returns-2 c =
     let k = c .before .before .before in
     let s = k .before .before .before .before .before .before .before .before in
-    job-composed (s .args .input .now) (s .args .out .now) _ _ _ (s .pre) (k .before .before .before .before .read-words .ensures) (k .consolidation-job .ensures .0) (k .consolidation-job .ensures .1) (kept k) (c .if1 .left)
+    job-composed (s .args .input .now) (s .args .out .now) _ _ _ (s .pre) (k .before .before .before .before .read-words .ensures) (k .consolidation-job .ensures .0) (k .consolidation-job .ensures .1 .0) (kept k) (c .if1 .left)
 
 pub answer-spec : {M : Type 1} → statement M
 answer-spec =
