@@ -1,7 +1,8 @@
 /* The consolidation key: large strain consolidation of one soil layer, worked in whole numbers.
  *
- * A job describes a layer, its loading, an end time and a budget of steps. The function opens the layer, runs it
- * to the end or until the budget is used, and writes the key: what the layer is then.
+ * A job describes a layer, its loading, an end time and a budget of steps. `consolidation_key` opens the layer, runs
+ * it to the end or until the budget is used, and writes the key: what the layer is then. `consolidation_job` writes a
+ * job from the numbers of a description.
  *
  * Bytes
  *
@@ -62,6 +63,35 @@
  *              32    8   pore pressure, mPa, signed
  *
  * A result has 56 + 40 x N bytes. Stresses and pressures are those at half the element's height.
+ *
+ * Description
+ *
+ * What a job says, as 652 numbers of 64 bits, each array at a fixed place whatever the counts. The units and limits are
+ * those of the job.
+ *
+ *   at  words
+ *    0    1   top face: 0 closed, 1 drained
+ *    1    1   bottom face: 0 closed, 1 drained
+ *    2    1   N, the number of elements
+ *    3    1   C1, points of the compressibility curve
+ *    4    1   C2, points of the conductivity curve
+ *    5    1   T, points of the load table
+ *    6    1   start: 0 with the water given, 1 at rest under the first load of the table
+ *    7    1   specific gravity of the solids
+ *    8    1   top level
+ *    9    1   bottom level; 0 if the bottom is closed
+ *   10    1   end
+ *   11    1   budget
+ *   12  128   solids of the elements, lowest first
+ *  140  128   water of the elements; 0 in start 1
+ *  268   64   compressibility curve: effective stresses
+ *  332   64   compressibility curve: void ratios
+ *  396   64   conductivity curve: void ratios
+ *  460   64   conductivity curve: conductivities
+ *  524   64   load table: times
+ *  588   64   load table: loads
+ *
+ * Places of an array past its count are not looked at.
  */
 #ifndef CONSOLIDATION_KEY_H
 #define CONSOLIDATION_KEY_H
@@ -85,15 +115,40 @@ enum {
     CONSOLIDATION_MOST_RESULT_BYTES = 5176
 };
 
+/* Where the numbers of a description stand, and how many there are. */
+enum {
+    CONSOLIDATION_TOP_AT = 0,
+    CONSOLIDATION_BOTTOM_AT = 1,
+    CONSOLIDATION_ELEMENTS_AT = 2,
+    CONSOLIDATION_COMPRESSIBILITY_POINTS_AT = 3,
+    CONSOLIDATION_CONDUCTIVITY_POINTS_AT = 4,
+    CONSOLIDATION_TABLE_POINTS_AT = 5,
+    CONSOLIDATION_START_AT = 6,
+    CONSOLIDATION_GRAVITY_AT = 7,
+    CONSOLIDATION_TOP_LEVEL_AT = 8,
+    CONSOLIDATION_BOTTOM_LEVEL_AT = 9,
+    CONSOLIDATION_END_AT = 10,
+    CONSOLIDATION_BUDGET_AT = 11,
+    CONSOLIDATION_SOLIDS_AT = 12,
+    CONSOLIDATION_WATER_AT = 140,
+    CONSOLIDATION_STRESS_AT = 268,
+    CONSOLIDATION_VOID_AT = 332,
+    CONSOLIDATION_CONDUCTIVITY_VOID_AT = 396,
+    CONSOLIDATION_CONDUCTIVITY_AT = 460,
+    CONSOLIDATION_TABLE_TIME_AT = 524,
+    CONSOLIDATION_TABLE_LOAD_AT = 588,
+    CONSOLIDATION_DESCRIPTION_WORDS = 652
+};
+
 /* Bytes of a job with so many elements and points, and of the result of a job with so many elements. */
 #define CONSOLIDATION_JOB_BYTES(elements, curve1, curve2, table) \
     ((size_t)48 + (size_t)16 * ((size_t)(elements) + (size_t)(curve1) + (size_t)(curve2) + (size_t)(table)))
 #define CONSOLIDATION_RESULT_BYTES(elements) ((size_t)56 + (size_t)40 * (size_t)(elements))
 
-/* What the function returns. Causes are tested in the order of their numbers, and the first that holds is the
+/* Why a key or a job is withheld. Causes are tested in the order of their numbers, and the first that holds is the
  * answer. */
 enum {
-    CONSOLIDATION_DONE = 0,               /* the result is written */
+    CONSOLIDATION_DONE = 0,               /* no cause: the result is written */
     CONSOLIDATION_NO_JOB = 1,             /* fewer than 48 bytes, or they do not begin with LSC */
     CONSOLIDATION_BAD_VERSION = 2,        /* a version other than 1 */
     CONSOLIDATION_BAD_HEADER = 3,         /* a face, count, start, specific gravity or spare byte (5 to 15) has a
@@ -110,7 +165,8 @@ enum {
                                              not rise */
     CONSOLIDATION_BAD_START = 9,          /* start 0: an element's void ratio is off the compressibility curve;
                                              start 1: the curve has no state of rest for an element */
-    CONSOLIDATION_SHORT_RESULT = 10       /* result_length is less than the result has */
+    CONSOLIDATION_SHORT_RESULT = 10,      /* result_length is less than the result has */
+    CONSOLIDATION_SHORT_JOB = 17          /* job_length is less than the job has */
 };
 
 /* Byte 5 of a result. */
@@ -148,6 +204,38 @@ enum {
  *         fwrite(result, 1, CONSOLIDATION_RESULT_BYTES(result[6]), stdout);
  */
 uint32_t consolidation_key(const uint8_t *job, size_t job_length, uint8_t *result, size_t result_length);
+
+/* Writes the job of a description at the beginning of `job`.
+ *
+ * `description` has `words` numbers, which are read and not changed; those past its end count as 0, and those past
+ * 652 are not looked at. Any numbers will do. `job` has `job_length` bytes, which may be more than the job needs.
+ * Neither pointer may be null, whatever its length. The two must not overlap. Neither pointer is kept.
+ *
+ * Returns the length of the job, which is at least 144, when it is written: then so many bytes of `job` are, and
+ * those after them are as they were. Otherwise it returns the number of the cause, and all of `job` is as it was: 3,
+ * 5, 6, 7, 8 or 9 as `consolidation_key` would for the same job, and last 17 where `job_length` is less than the job
+ * has. No other number is returned, so one below CONSOLIDATION_JOB_HEAD is a cause.
+ *
+ * Opening accepts every job that is written. The water is written as it is given, never as the start finds it, so
+ * writing what an accepted job says gives its bytes again.
+ *
+ * Memory, state and threads are as for the key; it uses less than 12 KiB of stack.
+ *
+ * Example:
+ *
+ *     uint64_t description[CONSOLIDATION_DESCRIPTION_WORDS] = {0};
+ *     uint8_t job[CONSOLIDATION_MOST_JOB_BYTES];
+ *     description[CONSOLIDATION_TOP_AT] = 1;
+ *     description[CONSOLIDATION_ELEMENTS_AT] = 2;
+ *     description[CONSOLIDATION_SOLIDS_AT] = description[CONSOLIDATION_SOLIDS_AT + 1] = 1000000;
+ *     ...
+ *     uint64_t length = consolidation_job(description, CONSOLIDATION_DESCRIPTION_WORDS, job, sizeof job);
+ *     if (length < CONSOLIDATION_JOB_HEAD)
+ *         fprintf(stderr, "refused %u\n", (unsigned)length);
+ *     else
+ *         fwrite(job, 1, length, file);
+ */
+uint64_t consolidation_job(const uint64_t *description, size_t words, uint8_t *job, size_t job_length);
 
 #ifdef __cplusplus
 }
