@@ -66,7 +66,7 @@
  *
  * Description
  *
- * What a job says, as 652 numbers of 64 bits, each array at a fixed place whatever the counts. The units and limits are
+ * What a job says, as 652 numbers of 64 bits, each array at a fixed place whatever the counts. Units and limits are
  * those of the job.
  *
  *   at  words

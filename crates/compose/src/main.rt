@@ -18,7 +18,7 @@ fn answer(input: &[u8], out: &mut [u8]) -> usize
 {
     let mut words = [0; WORDS_LENGTH];
     words::bytes::read_words(input, &mut words);
-    let number = key::written_job::consolidation_job(&words, out);
+    let number = words::write_words(&words, out);
     if number < HEADER_LENGTH as u64 {
         return answers::refused_line(number as u32, out);
     }

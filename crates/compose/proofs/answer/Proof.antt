@@ -14,21 +14,21 @@ slice-aggregate-read-words c = search needs
 read-words-requires : tie.Need-read-words-requires
 read-words-requires c κs = search needs
 
-slice-aggregate-consolidation-job : tie.Need-slice-aggregate-consolidation-job
-slice-aggregate-consolidation-job c = search needs
+slice-aggregate-write-words : tie.Need-slice-aggregate-write-words
+slice-aggregate-write-words c = search needs
 
-consolidation-job-requires : tie.Need-consolidation-job-requires
-consolidation-job-requires c κs = search needs
+write-words-requires : tie.Need-write-words-requires
+write-words-requires c κs = search needs
 
 cast-refused-line : tie.Need-cast-refused-line
 cast-refused-line c = search needs
 
 -- the buffer keeps its length
-kept : (k : tie.After-consolidation-job) →
-    length (k .consolidation-job .last .1 .0) ≡ length (k .before .before .before .before .before .before .before .before .args .out .now)
+kept : (k : tie.After-write-words) →
+    length (k .write-words .last .1 .0) ≡ length (k .before .before .before .before .before .before .before .before .args .out .now)
 kept k = search needs
 
-room : (k : tie.After-consolidation-job) → length (k .consolidation-job .last .1 .0) ≡ jobMost
+room : (k : tie.After-write-words) → length (k .write-words .last .1 .0) ≡ jobMost
 room k = kept k ∙ ap length (k .before .before .before .before .before .before .before .before .pre) ∙ length-zeros jobMost
 
 refused-line-requires : tie.Need-refused-line-requires
@@ -43,7 +43,7 @@ returns c =
     let t = f .before .before in
     let k = t .before .before .before in
     let s = k .before .before .before .before .before .before .before .before in
-    refusal-composed (s .args .input .now) (s .args .out .now) _ _ _ (s .pre) (k .before .before .before .before .read-words .ensures) (k .consolidation-job .ensures .0) (k .consolidation-job .ensures .1 .0) _ _ (t .if1 .taken) (f .refused-line .ensures)
+    refusal-composed (s .args .input .now) (s .args .out .now) _ _ _ (s .pre) (k .before .before .before .before .read-words .ensures) (k .write-words .ensures .0) (k .write-words .ensures .1 .0) _ _ (t .if1 .taken) (f .refused-line .ensures)
 
 same-length-2 : tie.Need-same-length-2
 same-length-2 c = search needs
@@ -52,7 +52,7 @@ returns-2 : tie.Need-returns-2
 returns-2 c =
     let k = c .before .before .before in
     let s = k .before .before .before .before .before .before .before .before in
-    job-composed (s .args .input .now) (s .args .out .now) _ _ _ (s .pre) (k .before .before .before .before .read-words .ensures) (k .consolidation-job .ensures .0) (k .consolidation-job .ensures .1 .0) (kept k) (c .if1 .left)
+    job-composed (s .args .input .now) (s .args .out .now) _ _ _ (s .pre) (k .before .before .before .before .read-words .ensures) (k .write-words .ensures .0) (k .write-words .ensures .1 .0) (kept k) (c .if1 .left)
 
 pub answer-spec : {M : Type 1} → statement M
 answer-spec =
@@ -60,8 +60,8 @@ answer-spec =
     (tie.spec
     slice-aggregate-read-words
     read-words-requires
-    slice-aggregate-consolidation-job
-    consolidation-job-requires
+    slice-aggregate-write-words
+    write-words-requires
     cast-refused-line
     refused-line-requires
     same-length
