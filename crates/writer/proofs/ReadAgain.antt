@@ -1,8 +1,8 @@
 -- What is written of an accepted description is read again.
-use Prim.Native.Nat.{ℕ, _+_, _*_, _≤_, _<_}
+use Prim.Native.Nat.{ℕ, _+_, _*_}
 use native.Mathlib.Omega.{arith}
 use borrow.Author.Tests.{eq-eqb, le-ltb}
-use lib.ListN.{length, getD}
+use lib.ListN.{length}
 use mathlib.Core.Bool.{true, false}
 use mathlib.Core.List.{List, [], _++_, append-assoc, append-nil}
 use mathlib.Core.Option.{Option, none, some}
@@ -15,11 +15,10 @@ use Rattle.job.specs.declared.framing.Framed.the-variants.{Sound}
 use Rattle.job.proofs.FramingLaws.{all-passed, framed-rest, isShort, isOther, isOutside, isWrong}
 use Rattle.numbers.specs.Bytes.{field}
 use Rattle.rules.proofs.Sound.{compressible, conductive}
-use Rattle.rules.specs.Job.{Description, described, describedCauses, firsts, headerLength, headerSound, jobCauses, jobLength, jobSite, marked, pairLength, seconds}
+use Rattle.rules.specs.Job.{Description, described, describedCauses, headerLength, headerSound, jobCauses, jobLength, jobSite, marked, pairLength}
 use Rattle.rules.specs.Opening.{accepted, descriptionWater, layerCauses, openedRecord, opening}
 use Rattle.rules.specs.Refusals.{firstCause}
-use Rattle.rules.specs.declared.answers.Acceptance.{Acceptance}
-use Rattle.rules.specs.declared.answers.Acceptance.the-variants.{Accepted, Refused}
+use Rattle.rules.specs.declared.answers.Acceptance.the-variants.{Accepted}
 use Rattle.rules.specs.declared.answers.Answer.the-variants.{Done}
 use Rattle.rules.specs.declared.answers.Answered.{Answered}
 use Rattle.rules.specs.declared.answers.Refusal.the-variants.{StartOffCurve}
@@ -27,7 +26,7 @@ use Rattle.rules.specs.declared.job.Header.{Header}
 use Rattle.rules.specs.declared.record.Frame.{Frame}
 use Rattle.rules.specs.declared.record.Progress.{Progress}
 use Rattle.table.proofs.Laws.{tabled}
-use Rattle.writer.specs.RoundTrips.{ReadAgain, upTo, upToCounts}
+use Rattle.writer.specs.RoundTrips.{ReadAgain, upToCounts}
 use Rattle.writer.specs.Writing.{headerBytes, jobBytes, pairsBytes}
 use Rattle.writer.proofs.Counted.{causes-kept, water-kept}
 use Rattle.writer.proofs.Fields.{header-again, marked-again, pairs-again, unused-again, version-again}

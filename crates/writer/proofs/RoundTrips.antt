@@ -21,7 +21,6 @@ use Rattle.rules.specs.declared.record.Frame.{Frame}
 use Rattle.rules.specs.declared.record.Progress.{Progress}
 use Rattle.writer.specs.RoundTrips.{ReadAgain, RoundTrips, upToCounts}
 use Rattle.writer.specs.Writing.{Writing, jobBytes, refusedWriting, writing}
-use Rattle.writer.specs.declared.Written.{Written}
 use Rattle.writer.specs.declared.Written.the-variants.{Length, Refused}
 use Rattle.writer.proofs.Counted.{accepted-kept, bytes-kept, described-counted}
 use Rattle.writer.proofs.ReadAgain.{read-again}

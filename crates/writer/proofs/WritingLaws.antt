@@ -10,8 +10,7 @@ use Rattle.acceptance.proofs.AcceptingLaws.{accepted-none, header-outside}
 use Rattle.job.proofs.FirstCause.{none-some}
 use Rattle.numbers.specs.Arrays.{overlaid}
 use Rattle.rules.specs.Job.{Description, headerSound, jobLength}
-use Rattle.rules.specs.Opening.{accepted, layerCauses}
-use Rattle.rules.specs.Refusals.{firstCause}
+use Rattle.rules.specs.Opening.{accepted}
 use Rattle.rules.specs.declared.answers.Acceptance.the-variants.{Accepted, Refused}
 use Rattle.rules.specs.declared.answers.Refusal.{Refusal}
 use Rattle.rules.specs.declared.answers.Refusal.the-variants.{HeaderOutside, ShortJobBuffer}

@@ -1,13 +1,12 @@
 -- A job that opening accepts is written again from what it says, to the last byte.
 use Prim.Native.Nat.{ℕ, _+_, _*_, _≤_, _<_}
 use native.Mathlib.Omega.{arith}
-use borrow.Author.Tests.{eqb-true, not-false}
-use lib.Dec.{T, eqb, eqb→eq}
+use lib.Dec.{eqb, eqb→eq}
 use lib.ListN.{length, take, drop, getD}
-use lib.Seq.{drop-drop, take-add, take-all, take-suc, drop-cons}
-use mathlib.Core.Bool.{Bool, true, false, not, _&&_}
+use lib.Seq.{drop-drop, take-add, take-all}
+use mathlib.Core.Bool.{true, _&&_}
 use mathlib.Core.List.{List, [], _∷_, _++_}
-use mathlib.Core.Path.{_≡_, refl, sym, ap, _∙_}
+use mathlib.Core.Path.{_≡_, sym, ap, _∙_}
 use Rattle.acceptance.proofs.AcceptingLaws.{header-within, start-accepts}
 use Rattle.claims.proofs.Opened.{opened}
 use Rattle.job.specs.Framing.{framing}
@@ -19,7 +18,7 @@ use Rattle.numbers.proofs.Appended.{appended-parts}
 use Rattle.numbers.proofs.Filled.{getD-filled}
 use Rattle.numbers.proofs.LittleEndian.{bytes-field}
 use Rattle.numbers.proofs.Searches.{both, passed}
-use Rattle.rules.specs.Job.{Description, described, firsts, headerLength, headerSound, jobLength, marked, pairLength, seconds}
+use Rattle.rules.specs.Job.{Description, described, firsts, headerLength, jobLength, marked, pairLength, seconds}
 use Rattle.rules.specs.Opening.{accepted, opening}
 use Rattle.rules.specs.declared.answers.Acceptance.the-variants.{Accepted}
 use Rattle.rules.specs.declared.answers.Answer.the-variants.{Done}

@@ -1,14 +1,11 @@
 use borrow.Author.Needs.{needs}
-use Prim.Native.Nat.{ℕ, _≤_, _<_}
-use lib.ListN.{length}
+use Prim.Native.Nat.{ℕ}
 use mathlib.Core.List.{List}
 use mathlib.Core.Path.{_≡_, refl, sym, ap, subst, _∙_}
 use Rattle.description.specs.Lent.{descriptionOf}
-use Rattle.rules.specs.Job.{Description, jobLength}
+use Rattle.rules.specs.Job.{Description}
 use Rattle.rules.specs.Opening.{accepted}
 use Rattle.rules.specs.declared.answers.Acceptance.the-variants.{Accepted}
-use Rattle.rules.specs.declared.record.Frame.{Frame}
-use Rattle.rules.specs.declared.record.Progress.{Progress}
 use Rattle.writer.specs.Writing.{Writing, writing, writtenNumber, writingNumber}
 use Rattle.writer.specs.declared.Written.{Written}
 use Rattle.writer.specs.declared.Written.the-variants.{Length}

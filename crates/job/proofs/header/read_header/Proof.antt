@@ -1,5 +1,4 @@
 use borrow.Author.Needs.{needs}
-use native.Mathlib.Omega.{arith}
 use Rattle.rules.specs.Job.{described}
 use Rattle.job.proofs.header.read_header.Statement.{statement}
 use Rattle.job.proofs.header.read_header.Tie as tie
