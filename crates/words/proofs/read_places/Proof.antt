@@ -38,7 +38,9 @@ loop-less : tie.Need-loop-less Inv-loop μ-loop
 loop-less c = omega arith
 
 loop-again : tie.Need-loop-again Inv-loop μ-loop
-loop-again c = let l = c .before .before in (omega arith, filled-store _ _ _ _ _ (omega arith) (l .loop .inv .1) (c .word .ensures), search needs)
+loop-again c =
+    let l = c .before .before in
+    (omega arith, filled-store _ _ _ _ _ (omega arith) (l .loop .inv .1) (c .word .ensures), search needs)
 
 same-length : tie.Need-same-length Inv-loop μ-loop
 same-length c = c .before .loop .inv .2

@@ -41,7 +41,12 @@ loop-less c = omega arith
 
 loop-again : tie.Need-loop-again Inv-loop μ-loop
 unfolding column
-loop-again c = let l = c .before .before in (omega arith, filled-store _ _ _ _ _ (omega arith) (l .loop .inv .1) (rw (zero-add (8 * l .loop .i)) (c .word-at .ensures)), search needs)
+loop-again c =
+    let l = c .before .before in (
+      omega arith,
+      filled-store _ _ _ _ _ (omega arith) (l .loop .inv .1) (rw (zero-add (8 * l .loop .i)) (c .word-at .ensures)),
+      search needs,
+    )
 
 same-length : tie.Need-same-length Inv-loop μ-loop
 same-length c = c .before .loop .inv .2
