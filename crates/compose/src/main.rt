@@ -6,7 +6,9 @@ ghost use Rattle.numbers.specs.Arrays.{overlaid, zeros};
 use job::header::HEADER_LENGTH;
 use libc::STDIN_FILENO;
 use libc::STDOUT_FILENO;
-use words::WORDS_LENGTH;
+
+// How many words a description has.
+const WORDS: usize = 652;
 
 // The most bytes of a job.
 const ROOM: usize = 5_168;
@@ -16,7 +18,7 @@ fn answer(input: &[u8], out: &mut [u8]) -> usize
     requires { ⌜ now out ≡ zeros jobMost ⌝ }
     ensures { λ r. ⌜ (now (out .exit) ≡ overlaid (composed (now (input .entry))) (now (out .entry))) × (r ≡ length (composed (now (input .entry)))) ⌝ }
 {
-    let mut words = [0; WORDS_LENGTH];
+    let mut words = [0; WORDS];
     words::bytes::read_words(input, &mut words);
     let number = words::write_words(&words, out);
     if number < HEADER_LENGTH as u64 {

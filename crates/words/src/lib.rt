@@ -26,9 +26,6 @@ const TABLE_TIME_AT: usize = 524;
 
 const TABLE_LOAD_AT: usize = 588;
 
-// How many words a description has.
-pub const WORDS_LENGTH: usize = 652;
-
 // Word i.
 pub fn word(words: &[u64], i: usize) -> u64
     ensures { λ r. ⌜ r ≡ getD (now (words .entry)) i 0 ⌝ }
