@@ -22,6 +22,7 @@ BLOCKS = 100_000
 TESTS: Dict[str, List[str]] = {
     "scenarios": ["tests/run_files"],
     "consolidate": ["tests/run_program"],
+    "compose": ["tests/run_texts"],
 }
 
 
