@@ -8,7 +8,7 @@ ghost use Rattle.words.specs.Words.{writtenWords, WordsTrips};
 pub extern "C" fn consolidation_job(description: &[u64], job: &mut [u8]) -> u64
     ensures { λ r. ⌜ r ≡ (writtenWords (now (description .entry)) (now (job .entry))) .number ⌝ }
     ensures { λ _. ⌜ now (job .exit) ≡ (writtenWords (now (description .entry)) (now (job .entry))) .buffer ⌝ }
-    ensures { λ _. ⌜ WordsTrips (now (description .entry)) (now (job .entry)) (now (job .exit)) ⌝ }
+    ensures { λ r. ⌜ WordsTrips (now (description .entry)) (now (job .entry)) r (now (job .exit)) ⌝ }
 {
     words::write_words(description, job)
 }

@@ -43,7 +43,8 @@ unfoldable pub seconds : (size offset count : ℕ) → List ℕ → List ℕ
 unfolding firsts
 seconds size offset count job = firsts size (offset + 8) count job
 
--- what a job's bytes say: the numbers of its header, and the fields of its pairs. Array places past a count are 0
+-- what a job's bytes say, or a description that has no bytes: the numbers of a header, and the fields of pairs. Array places past a
+-- count are 0 where bytes say it, and do not matter
 pub record Description : Type 0 where
   pub header : Header
   pub solids : List ℕ

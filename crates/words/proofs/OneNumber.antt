@@ -5,7 +5,7 @@ use native.Mathlib.Omega.{arith}
 use lib.ListN.{length, take}
 use lib.Seq.{take-append-seam}
 use mathlib.Core.List.{List}
-use mathlib.Core.Path.{_≡_, refl}
+use mathlib.Core.Path.{_≡_, refl, ap}
 use Rattle.answers.proofs.Causes.{cause-numbered}
 use Rattle.numbers.specs.Arrays.{overlaid}
 use Rattle.rules.specs.Job.{Description, headerLength, jobLength}
@@ -17,9 +17,14 @@ use Rattle.rules.specs.declared.answers.Acceptance.the-variants.{Accepted, Refu
 use Rattle.rules.specs.declared.answers.Refusal.{Refusal}
 use Rattle.rules.specs.declared.answers.Refusal.the-variants.{ShortJobBuffer}
 use Rattle.rules.specs.declared.job.Header.{Header}
-use Rattle.words.specs.Words.{wordsDescription, writtenWords}
+use Rattle.words.specs.Words.{WordsTrips, wordsDescription, writtenWords}
+use Rattle.writer.proofs.RoundTrips.{round-trips}
 use Rattle.writer.proofs.Stores.{job-length}
 use Rattle.writer.proofs.WritingLaws.{cause-writes, short-writes, room-writes}
+use Rattle.writer.specs.RoundTrips.{ReadAgain}
+use Rattle.writer.specs.declared.Written.{Written}
+use Rattle.writer.specs.declared.Written.the-variants.{Length}
+use Rattle.writer.specs.declared.Written.the-variants as written
 use Rattle.writer.specs.Writing.{Writing, jobBytes, writing, writtenNumber, writingNumber}
 
 -- the number of every refusal is below a header's length, and no job is shorter than that
@@ -69,3 +74,28 @@ module _ (buffer : List ℕ) where
 pub words-told : (words buffer : List ℕ) → Told buffer (writtenWords words buffer)
 unfolding writtenWords writingNumber
 words-told words buffer = told buffer (wordsDescription words)
+
+-- both round trips, by the number: one that is no refusal's is the length
+returned-trips : (words buffer : List ℕ) →
+    WordsTrips words buffer ((writtenWords words buffer) .number) ((writtenWords words buffer) .buffer)
+unfolding writtenWords writingNumber writtenNumber
+returned-trips words buffer =
+    let d = wordsDescription words in
+    let trips = round-trips d buffer in
+    record {
+      written-then-read = read ((writing d buffer) .answer) refl;
+      read-then-written = λ job are done alike room.
+          let (answer, after) = trips .read-then-written job are done alike room in (ap writtenNumber answer, after);
+    }
+  where
+    read : (answer : Written) → (writing (wordsDescription words) buffer) .answer ≡ answer → headerLength ≤ writtenNumber ((writing (wordsDescription words) buffer) .answer) →
+        ReadAgain (wordsDescription words) (take (writtenNumber ((writing (wordsDescription words) buffer) .answer)) ((writing (wordsDescription words) buffer) .buffer))
+    read (Length size) e h = rw (e, writtenNumber) (round-trips (wordsDescription words) buffer .written-then-read size e)
+    read (written.Refused cause) e h =
+        let (_, most) = cause-numbered cause in
+        let number-is = ap writtenNumber e in
+        absurd (omega arith)
+
+pub words-trips : (words buffer : List ℕ) {number : ℕ} {after : List ℕ} → number ≡ (writtenWords words buffer) .number →
+    after ≡ (writtenWords words buffer) .buffer → WordsTrips words buffer number after
+words-trips words buffer n a = rw (n, a) (returned-trips words buffer)

@@ -1,14 +1,17 @@
 -- A description by its words, numbers of 64 bits: those of the header, then each array at its place. A word past the last is 0.
-use Prim.Native.Nat.{ℕ, _+_}
-use lib.ListN.{getD}
+use Prim.Native.Nat.{ℕ, _+_, _≤_}
+use lib.ListN.{length, take, getD}
 use mathlib.Core.List.{List}
+use mathlib.Core.Path.{_≡_}
 use Rattle.description.specs.Lent.{descriptionOf}
-use Rattle.numbers.specs.Arrays.{tabulate}
-use Rattle.numbers.specs.Bytes.{column}
-use Rattle.rules.specs.Job.{Description}
+use Rattle.numbers.specs.Arrays.{overlaid, tabulate}
+use Rattle.numbers.specs.Bytes.{AreBytes, column}
+use Rattle.rules.specs.Job.{Description, described, headerLength}
+use Rattle.rules.specs.Opening.{opening}
 use Rattle.rules.specs.Result.{Returned}
+use Rattle.rules.specs.declared.answers.Answer.the-variants.{Done}
 use Rattle.rules.specs.declared.job.Header.{Header}
-use Rattle.writer.specs.RoundTrips.{RoundTrips}
+use Rattle.writer.specs.RoundTrips.{ReadAgain, upToCounts}
 use Rattle.writer.specs.Writing.{writing, writingNumber}
 
 -- where each array begins: two of 128 places, and six of 64
@@ -81,7 +84,11 @@ unfolding wordsDescription writing writingNumber
 writtenWords words buffer =
     let d = wordsDescription words in record { number = writingNumber d buffer; buffer = (writing d buffer) .buffer }
 
--- both round trips of their description, by the buffer before and after
-abbrev pub WordsTrips : (words before after : List ℕ) → Type 0
-WordsTrips words before after =
-    let d = wordsDescription words in RoundTrips d before ((writing d before) .answer) after
+-- both round trips of their description, by the buffer before the call, the number that is returned and the buffer after it
+pub record WordsTrips (words before : List ℕ) (number : ℕ) (after : List ℕ) : Type 0 where
+  -- what is written is read again; a number below a header's length is a refusal's
+  pub written-then-read : headerLength ≤ number → ReadAgain (wordsDescription words) (take number after)
+  -- a job of bytes that opening accepts is written again from what it says
+  pub read-then-written : (job : List ℕ) → AreBytes job → (opening job) .answer ≡ Done →
+      upToCounts (described job) ≡ upToCounts (wordsDescription words) → length job ≤ length before →
+      (number ≡ length job) × (after ≡ overlaid job before)

@@ -80,7 +80,7 @@ pub fn written_number(written: Written) -> u64
 pub fn write_words(words: &[u64], job: &mut [u8]) -> u64
     ensures { λ r. ⌜ r ≡ (writtenWords (now (words .entry)) (now (job .entry))) .number ⌝ }
     ensures { λ _. ⌜ now (job .exit) ≡ (writtenWords (now (words .entry)) (now (job .entry))) .buffer ⌝ }
-    ensures { λ _. ⌜ WordsTrips (now (words .entry)) (now (job .entry)) (now (job .exit)) ⌝ }
+    ensures { λ r. ⌜ WordsTrips (now (words .entry)) (now (job .entry)) r (now (job .exit)) ⌝ }
 {
     let header = read_header(words);
     let mut void = [0; 64];

@@ -1,5 +1,5 @@
 -- The fields of a written job, as they are read again.
-use Prim.Native.Nat.{ℕ, _+_, _*_, _%_, _^_, _≤_, _<_}
+use Prim.Native.Nat.{ℕ, _+_, _*_, _^_, _≤_, _<_}
 use native.Mathlib.Nat.{add-zero}
 use native.Mathlib.Omega.{arith}
 use lib.ListN.{length, getD, length-append}
@@ -47,7 +47,7 @@ module _ (h : Header) (rest : List ℕ) where
   unfolding headerBytes described
   header-again kept top bottom end budget =
       let s = kept-header h kept in
-      let byte : (n : ℕ) → n ≤ 255 → n % 256 + 256 * 0 ≡ n = λ n few. omega arith in
+      let byte = number-bytes-lt 1 in
       λ i. record {
         top = byte h.top (omega (arith, s .top-kept .most)) i;
         bottom = byte h.bottom (omega (arith, s .bottom-kept .most)) i;

@@ -58,9 +58,10 @@ module _ (d : Description) (before : List ℕ) where
       by-acceptance (acceptance.Refused cause) e = absurd (refused cause (cause-writes d before e) size is)
       by-acceptance (acceptance.Accepted frame progress) e = by-room e (ltb (length before) (jobLength d.header)) refl
 
-  writes : (job : List ℕ) → AreBytes job → (opening job) .answer ≡ Done → described job ≡ upToCounts d → length job ≤ length before →
+  writes : (job : List ℕ) → AreBytes job → (opening job) .answer ≡ Done → upToCounts (described job) ≡ upToCounts d → length job ≤ length before →
       (w .answer ≡ Length (length job)) × (w .buffer ≡ overlaid job before)
-  writes job are done same room =
+  writes job are done alike room =
+      let same = described-counted job ∙ alike in
       let (frame, progress, again) = accepted-again job are done in
       let is : accepted d ≡ acceptance.Accepted frame progress = sym (accepted-kept d) ∙ ap accepted (sym same) ∙ again in
       let bytes-are : jobBytes d ≡ job = sym (bytes-kept d) ∙ ap jobBytes (sym same) ∙ written-again job are done in
@@ -75,5 +76,5 @@ module _ (d : Description) (before : List ℕ) where
 pub rewritten : (job buffer : List ℕ) → AreBytes job → (opening job) .answer ≡ Done → length job ≤ length buffer →
     writing (described job) buffer ≡ record { answer = Length (length job); buffer = overlaid job buffer }
 rewritten job buffer are done room =
-    let (answer-is, buffer-is) = writes (described job) buffer job are done (described-counted job) room in
+    let (answer-is, buffer-is) = writes (described job) buffer job are done refl room in
     λ i. record { answer = answer-is i; buffer = buffer-is i }

@@ -44,5 +44,5 @@ pub record RoundTrips (d : Description) (before : List ℕ) (answer : Written) (
   -- what is written is read again
   pub written-then-read : (size : ℕ) → answer ≡ Length size → ReadAgain d (take size after)
   -- a job of bytes that opening accepts is written again from what it says, to the last byte
-  pub read-then-written : (job : List ℕ) → AreBytes job → (opening job) .answer ≡ Done → described job ≡ upToCounts d →
+  pub read-then-written : (job : List ℕ) → AreBytes job → (opening job) .answer ≡ Done → upToCounts (described job) ≡ upToCounts d →
       length job ≤ length before → (answer ≡ Length (length job)) × (after ≡ overlaid job before)

@@ -1,11 +1,8 @@
-use Prim.Native.Nat.{ℕ}
-use mathlib.Core.List.{List}
-use mathlib.Core.Path.{_≡_, sym, ap, subst, _∙_}
+use mathlib.Core.Path.{_≡_, ap, _∙_}
 use Rattle.description.specs.Lent.{descriptionOf}
 use Rattle.rules.specs.Job.{Description}
-use Rattle.writer.specs.RoundTrips.{RoundTrips}
 use Rattle.writer.specs.Writing.{writing, writingNumber}
-use Rattle.writer.proofs.RoundTrips.{round-trips}
+use Rattle.words.proofs.OneNumber.{words-trips}
 use Rattle.words.specs.Words.{wordsDescription, writtenWords}
 use borrow.Author.Needs.{needs}
 use Rattle.words.proofs.write_words.Statement.{statement}
@@ -117,12 +114,11 @@ returns : tie.Need-returns
 unfolding writtenWords
 returns c =
     let w = c .before .before .before in
+    let words = start w .args .words .now in
     let job = start w .args .job .now in
+    let number = c .written-number .ensures ∙ w .write-job .ensures .1 .1 .0 ∙ ap (λ (d : Description). writingNumber d job) (described w) in
     let left = w .write-job .ensures .1 .0 ∙ ap (λ (d : Description). (writing d job) .buffer) (described w) in
-    let d = wordsDescription (start w .args .words .now) in (
-      c .written-number .ensures ∙ w .write-job .ensures .1 .1 .0 ∙ ap (λ (d : Description). writingNumber d job) (described w),
-      (left, subst (λ (after : List ℕ). RoundTrips d job ((writing d job) .answer) after) (sym left) (round-trips d job)),
-    )
+    (number, (left, words-trips words job number left))
 
 pub write-words-spec : {M : Type 1} → statement M
 write-words-spec =
