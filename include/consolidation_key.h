@@ -67,7 +67,7 @@
  * Description
  *
  * What a job says, as 652 numbers of 64 bits, each array at a fixed place whatever the counts. Units and limits are
- * those of the job.
+ * those of the job; the numbers are the machine's own, as an array of uint64_t holds them, and each is judged whole.
  *
  *   at  words
  *    0    1   top face: 0 closed, 1 drained
@@ -213,7 +213,7 @@ uint32_t consolidation_key(const uint8_t *job, size_t job_length, uint8_t *resul
  *
  * Returns the length of the job, which is at least 144, when it is written: then so many bytes of `job` are, and
  * those after them are as they were. Otherwise it returns the number of the cause, and all of `job` is as it was: 3,
- * 5, 6, 7, 8 or 9 as `consolidation_key` would for the same job, and last 17 where `job_length` is less than the job
+ * 5, 6, 7, 8 or 9, by the tests that `consolidation_key` makes, and last 17 where `job_length` is less than the job
  * has. No other number is returned, so one below CONSOLIDATION_JOB_HEAD is a cause.
  *
  * Opening accepts every job that is written. The water is written as it is given, never as the start finds it, so

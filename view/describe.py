@@ -16,7 +16,7 @@ from typing import List, Sequence
 
 sys.path.insert(0, os.path.dirname(os.path.abspath(__file__)))
 
-from keys import NoAnswer, Refusal, job_bytes  # noqa: E402
+from keys import NoAnswer, Refusal, job_bytes, printed  # noqa: E402
 from layer import compose, read_job  # noqa: E402
 from layer_blame import refusal_words  # noqa: E402
 from layer_print import in_text_units, layer_lines  # noqa: E402
@@ -53,11 +53,7 @@ def main(arguments: Sequence[str]) -> int:
     for words in refused:
         print("%s: %s" % (name, words), file=sys.stderr)
     heads = [comment(words) for words in refused + ["The layer of %s." % name]]
-    try:
-        print("\n".join(heads + layer_lines(layer)), flush=True)
-    except BrokenPipeError:
-        os.dup2(os.open(os.devnull, os.O_WRONLY), sys.stdout.fileno())
-    return 1 if refused else 0
+    return printed(heads + layer_lines(layer), "describe") or (1 if refused else 0)
 
 
 if __name__ == "__main__":

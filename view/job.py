@@ -16,7 +16,7 @@ from typing import Sequence
 
 sys.path.insert(0, os.path.dirname(os.path.abspath(__file__)))
 
-from keys import NoAnswer, Refusal, counted  # noqa: E402
+from keys import NoAnswer, Refusal, counted, printed  # noqa: E402
 from layer import compose  # noqa: E402
 from layer_blame import refusal_words  # noqa: E402
 from layer_text import read_layer  # noqa: E402
@@ -24,19 +24,20 @@ from layer_text import read_layer  # noqa: E402
 
 def store(out: str, data: bytes) -> None:
     """Write a file that is either as it was or complete. What is no ordinary file is written as it is."""
-    out = os.path.realpath(out) if out else out
     if os.path.exists(out) and not os.path.isfile(out):
         with open(out, "wb") as target:
             target.write(data)
         return
-    part = os.path.join(os.path.dirname(out), ".%d.part" % os.getpid())
-    try:
-        with open(part, "wb") as target:
+    out = os.path.realpath(out) if out else out
+    part = os.path.join(os.path.dirname(out), ".%s.%d.part" % (os.path.basename(out), os.getpid()))
+    with open(part, "xb") as target:
+        try:
             target.write(data)
-        os.replace(part, out)
-    finally:
-        if os.path.exists(part):
+            target.flush()
+            os.replace(part, out)
+        except OSError:
             os.remove(part)
+            raise
 
 
 def main(arguments: Sequence[str]) -> int:
@@ -61,8 +62,7 @@ def main(arguments: Sequence[str]) -> int:
     except OSError as error:
         print("job: %s: %s" % (out, error.strerror), file=sys.stderr)
         return 2
-    print("wrote %s, %s" % (out, counted(len(answer), "byte")))
-    return 0
+    return printed(["wrote %s, %s" % (out, counted(len(answer), "byte"))], "job") if os.path.isfile(out) else 0
 
 
 if __name__ == "__main__":

@@ -6,6 +6,7 @@ import os
 import re
 import struct
 import subprocess
+import sys
 from typing import List, NamedTuple, Optional, Union
 
 YEAR_DAYS = 365
@@ -107,6 +108,21 @@ def read_answer(answer: bytes) -> Union[Key, Refusal]:
         raise NoAnswer("the program wrote neither a key nor a refusal (%d bytes)" % len(answer))
     rows = [Element(*struct.unpack_from("<QQQqq", answer, at)) for at in range(56, len(answer), 40)]
     return Key(answer[5], *struct.unpack_from("<QQQqqq", answer, 8), rows)
+
+
+def printed(lines: List[str], verb: str) -> int:
+    """Write lines on standard output: 0, or 2 where that cannot be written. A reader that has gone away is no fault, and
+    letters that the output does not know are written as codes."""
+    encoding = sys.stdout.encoding or "utf-8"
+    try:
+        print("\n".join(lines).encode(encoding, "backslashreplace").decode(encoding), flush=True)
+    except BrokenPipeError:
+        os.dup2(os.open(os.devnull, os.O_WRONLY), sys.stdout.fileno())
+    except OSError as error:
+        os.dup2(os.open(os.devnull, os.O_WRONLY), sys.stdout.fileno())
+        print("%s: standard output: %s" % (verb, error.strerror), file=sys.stderr)
+        return 2
+    return 0
 
 
 def stop_words(stop: int) -> str:

@@ -7,7 +7,7 @@ from typing import Callable, Iterator, List, NamedTuple, Optional, Sequence
 
 from keys import Refusal
 from layer import AT_REST, CLOSED, Layer, header_outside
-from layer_units import KINDS, METRE, RATIO, SECOND, amount, decimal, limits
+from layer_units import KILOPASCAL, KINDS, METRE, RATIO, SECOND, amount, decimal, limits
 
 
 class Order(NamedTuple):
@@ -95,9 +95,26 @@ def table_faults(layer: Layer) -> Iterator[str]:
     yield from point_faults("load", [Column(layer.time_key, layer.times, RISING), Column("load_kPa", layer.loads)])
 
 
+def carried(layer: Layer) -> List[int]:
+    """The stress that each element carries at rest: the first load, and the weight of what is above its middle."""
+    weights = [solids * (layer.gravity - 1_000) * 9_810 // 10**9 for solids in layer.solids]
+    return [layer.loads[0] + sum(weights[at + 1:]) + weight // 2 for at, weight in enumerate(weights)]
+
+
+def rest_faults(layer: Layer) -> Iterator[str]:
+    """Cause 9 at rest: an element that carries less than the first curve's first stress, or more than its last."""
+    first, last = layer.stresses[0], layer.stresses[-1]
+    for place, stress in enumerate(carried(layer), 1):
+        if not first <= stress <= last:
+            yield "load.load_kPa, point 1: under %s element %d carries %s, which is not within %s to %s, the ends of the curve" \
+                % (amount(layer.loads[0], KILOPASCAL), place, amount(stress, KILOPASCAL), decimal(first, KILOPASCAL),
+                   amount(last, KILOPASCAL))
+
+
 def start_faults(layer: Layer) -> Iterator[str]:
-    """Cause 9 with given water: an element off the first curve. A start at rest has no field to blame."""
+    """Cause 9: with given water an element off the first curve; at rest one that the curve cannot carry."""
     if layer.start == AT_REST:
+        yield from rest_faults(layer)
         return
     for place, (solids, water) in enumerate(zip(layer.solids, layer.water), 1):
         void = water * RATIO.size // solids

@@ -137,9 +137,12 @@ def choice(values: Values, key: str, meanings: Dict[str, int]) -> int:
 # ----------------------------------------------------------------------------------------------------------------
 
 def pasted(text: str) -> List[List[str]]:
-    """The cells of a text, row by row; blank lines are none. In a row with tabs only these separate cells."""
-    rows = [line.strip("\r") for line in text.split("\n") if line.strip()]
-    return [[cell.strip(" ") for cell in re.split(r"\t+" if "\t" in row else " +", row.strip(" \t"))] for row in rows]
+    """The cells of a text, row by row. Blank lines before the first row and after the last are none; one between is a
+    row of one empty cell. In a row with tabs each tab separates two cells, and one of them may be empty."""
+    lines = [line.rstrip().lstrip(" ") for line in text.split("\n")]
+    filled = [at for at, line in enumerate(lines) if line]
+    rows = lines[filled[0]:filled[-1] + 1] if filled else []
+    return [[cell.strip(" ") for cell in (row.split("\t") if "\t" in row else re.split(" +", row))] for row in rows]
 
 
 def cell_number(cell: str, where: str) -> Union[Decimal, OutOfReach]:
@@ -152,6 +155,8 @@ def cell_number(cell: str, where: str) -> Union[Decimal, OutOfReach]:
 
 def read_row(row: object, names: Sequence[str], text: bool, where: str) -> List[int]:
     """A row with a number for each name, in the paper's units."""
+    if text and "" in row:
+        raise BadText("%s: %s" % (where, "a blank line between two rows" if row == [""] else "an empty cell"))
     if not isinstance(row, list) or len(row) != len(names):
         found = counted(len(row), "number") if isinstance(row, list) else shown(row)
         raise BadText("%s: %s instead of %s" % (where, found, counted(len(names), "number")))

@@ -102,6 +102,8 @@ def shown(value: object) -> str:
     if isinstance(value, (dict, list)):
         return "a table" if isinstance(value, dict) else "an array"
     if isinstance(value, int):
+        if value.bit_length() > 100_000:  # its digits take long to find
+            return "a whole number of %d bits" % value.bit_length()
         value = Decimal(value)  # whose digits can be written however many there are
     words = repr(value) if isinstance(value, str) else str(value).lower()
     return words if len(words) <= 60 else words[:40] + "..."
@@ -111,6 +113,9 @@ def whole(value: object, unit: Unit, where: str) -> int:
     """A number of the text in the paper's unit, of which it has to be a whole number that fits 64 bits."""
     if isinstance(value, OutOfReach):
         raise BadText("%s: %s has an exponent that is out of reach" % (where, shown(value)))
+    if isinstance(value, int) and value.bit_length() > 20 * FAR:
+        wrong = "is negative" if value < 0 else "does not fit 64 bits"
+        raise BadText("%s: %s" % (where, " ".join(filter(None, (shown(value), unit.sign, wrong)))))
     if isinstance(value, bool) or not isinstance(value, (int, Decimal)) or not Decimal(value).is_finite():
         kind = "a text, not a number" if isinstance(value, str) else "not a number"
         raise BadText("%s: %s is %s" % (where, shown(value), kind))

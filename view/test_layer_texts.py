@@ -174,10 +174,10 @@ class Forms(Texts):
         elements = "solids_m = [0.001, 0.001]\nwater_m = [0.002, 0.0015]\n"
         for form in ('columns = ["solids_m", "water_m"]\nrows = [[0.001, 0.002], [0.001, 0.0015]]',
                      'columns = ["water_m", "solids_m"]\nrows = [[0.002, 0.001], [0.0015, 0.001]]',
-                     'columns = ["solids_m", "water_m"]\nrows = """\n0.001\t0.002\n\n 0.001 \t .0015 \n"""',
+                     'columns = ["solids_m", "water_m"]\nrows = """\n\n0.001\t0.002\n 0.001 \t .0015 \n\n"""',
                      'columns = ["solids_m", "water_m"]\nrows = "1e-3   2.E-3\\r\\n+0.001 0.00150"',
                      "count = 2\nsolids_m = 0.001\nwater_m = [0.002, 1.5e-3]",
-                     "count = 2.0\nsolids_m = 0.001\nwater_m = '''\n0.002\n   \n0.0015\t'''",
+                     "count = 2.0\nsolids_m = 0.001\nwater_m = '''\n   \n0.002\n0.0015\t'''",
                      "solids_m = '''\n0.001\n0.001'''\nwater_m = '''0.002\n0.0015\n'''"):
             self.assertEqual(words_of(changed(elements, form + "\n")), words_of(TEXT), form)
         load = "time_days = [0]\nload_kPa = [15]\n"
@@ -327,6 +327,7 @@ class BadTexts(Texts):
                 ("1" + "0" * 40, "1%s steps does not fit 64 bits" % ("0" * 40)),
                 ("9" * 4_000, "%s... steps does not fit 64 bits" % ("9" * 40)),
                 ("0b1" + "0" * 20_000, "%s... steps does not fit 64 bits" % format(Decimal(2**20_000), "f")[:40]),
+                ("0x" + "f" * 3_000_000, "a whole number of 12000000 bits steps does not fit 64 bits"),
                 ("1." + "3" * 5_000, "1.%s... steps is no whole number of steps" % ("3" * 38))):
             self.assert_bad(changed("= 1000", "= " + value).encode(), "budget: " + wrong)
 
@@ -374,6 +375,15 @@ class BadTexts(Texts):
                 (("2.65", "2.6505"), "specific_gravity: 2.6505 is no whole number of thousandths")):
             self.assert_bad(changed(*changes).encode(), wrong)
 
+    def test_gaps_in_pasted_text(self) -> None:
+        for gap, wrong in (("1\t1e-10\n\n2\t2e-10", "row 2: a blank line between two rows"),
+                           ("1\t1e-10\n \t\n2\t2e-10", "row 2: a blank line between two rows"),
+                           ("1\t\t1e-10\n2\t2e-10", "row 1: an empty cell"), ("\t1\t1e-10", "row 1: an empty cell"),
+                           ("1\t\n2\t2e-10", "row 1: 1 number instead of 2 numbers")):
+            self.assert_bad(changed("1    1e-10\n2    2e-10", gap).encode(), "conductivity.rows, " + wrong)
+        self.assert_bad(changed("[0.001, 0.001]", "'''0.001\n\n0.001'''").encode(),
+                        "elements.solids_m, element 2: a blank line between two rows")
+
     def test_marks_in_pasted_cells(self) -> None:
         hint = "; a number has a point before its decimals and no other mark"
         for cell in ("0,5", "1,000", "1.000,5", "1'000", "1\u00a0000", "1_000", "1.000.000"):
@@ -384,7 +394,7 @@ class BadTexts(Texts):
         for cell in ("void", "nan", "inf", "\u0661", "0x10", "-", "1e", "."):
             self.assert_bad(changed("1    1e-10", cell + "    1e-10").encode(),
                             "conductivity.rows, row 1, void_ratio: %r is not a number" % cell)
-        self.assert_bad(changed("[0.001, 0.001]", "'''0.001\n\n0,001'''").encode(),
+        self.assert_bad(changed("[0.001, 0.001]", "'''0.001\n0,001'''").encode(),
                         "elements.solids_m, element 2: '0,001' is not a number" + hint)
         self.assert_bad(changed("[0.001, 0.001]", "'''0.001\n1 000'''").encode(),
                         "elements.solids_m, element 2: 2 numbers instead of 1 number")
@@ -473,7 +483,10 @@ class Refusals(Texts):
                             "within 1 to 2, the ends of the curve")
         self.assert_refused(changed("[0.002, 0.0015]", "[0.0001, 0]"), 9, "elements.water_m, element 1: the void ratio "
                             "0.1 is not within 1 to 2, the ends of the curve")
-        self.assert_refused(changed('"given"', '"rest"', "water_m = [0.002, 0.0015]\n", "", "[15]", "[106]"), 9, "")
+        for load, element, carried in ((106, 1, "106.024279"), (4, 1, "4.024279")):
+            self.assert_refused(changed('"given"', '"rest"', "water_m = [0.002, 0.0015]\n", "", "[15]", "[%d]" % load), 9,
+                                "load.load_kPa, point 1: under %d kPa element %d carries %s kPa, which is not within 5 to "
+                                "105 kPa, the ends of the curve" % (load, element, carried))
 
     def test_the_first_cause_is_told(self) -> None:
         self.assert_refused(changed("= 1000", "= 1000001", "[105, 1]", "[5, 1]", "[0]", "[7]"), 5,
