@@ -33,6 +33,8 @@ pub fn refusal_number(cause: Refusal) -> u64
         Refusal::StepOffCurve => 15,
         Refusal::RunOutside => 16,
         Refusal::ShortJobBuffer => 17,
+        Refusal::ReadingOutside => 18,
+        Refusal::ElementOutside => 19,
     }
 }
 

@@ -21,6 +21,8 @@ pub enum Refusal {
     StepOffCurve,
     RunOutside,
     ShortJobBuffer,
+    ReadingOutside,
+    ElementOutside,
 }
 
 // Why a run stopped.

@@ -25,7 +25,7 @@ returns-2 c = search needs
 
 returns-3 : tie.Need-returns-3
 unfolding answerNumber
-returns-3 c = search needs
+returns-3 c = rw (c .before .before .answer .given .1) (c .refusal-number .ensures)
 
 pub answer-number-spec : {M : Type 1} → statement M
 answer-number-spec =

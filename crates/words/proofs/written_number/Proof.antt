@@ -18,7 +18,7 @@ returns c = search needs
 
 returns-2 : tie.Need-returns-2
 unfolding writtenNumber
-returns-2 c = search needs
+returns-2 c = rw (c .before .before .written2 .given .1) (c .refusal-number .ensures)
 
 pub written-number-spec : {M : Type 1} → statement M
 written-number-spec =
