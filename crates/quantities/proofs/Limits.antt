@@ -1,15 +1,17 @@
 -- The limits of a kind, as tests of them say.
 use Prim.Native.Nat.{ℕ, zero, suc, _≤_, _<_, _^_}
 use native.Mathlib.Omega.{arith}
-use lib.Dec.{T, leb, eqb, leb→le}
+use lib.Dec.{T, leb, eqb, leb→le, lit<}
 use borrow.Author.Tests.{le-leb, lt-leb, ne-eqb}
 use mathlib.Core.Bool.{Bool, true, false}
 use mathlib.Core.Path.{_≡_, refl, sym, _∙_}
 use lib.IntN.{ℤ, pos, negsuc, natAbs}
 use lib.Signed.{_≤ℤ_, _<ℤ_}
+use Rattle.numbers.proofs.Interval.{within-cut, within-mul, within-pos}
 use Rattle.numbers.proofs.Searches.{both, passed}
 use Rattle.numbers.proofs.Signed.{signed}
-use Rattle.quantities.specs.Quantities.{Limits, within, withinℤ, from_to_, stressLimits, voidLimits, levelLimits, clockLimits, head, pressure}
+use Rattle.numbers.specs.Interval.{Within}
+use Rattle.quantities.specs.Quantities.{Limits, within, withinℤ, from_to_, stressLimits, voidLimits, levelLimits, clockLimits, head, pressure, pressureOf, mostHeadPressure}
 use Rattle.quantities.specs.Tested.{tested, testedHead, testedPressure, testedVoid, testedClock}
 use Rattle.quantities.specs.declared.TestedHead.{TestedHead}
 use Rattle.quantities.specs.declared.TestedPressure.{TestedPressure}
@@ -115,3 +117,8 @@ module _ (n : ℕ) where
 
   pub clock-tells : {answer : TestedClock} → answer ≡ testedClock n → ClockTells answer
   clock-tells told = tested-tells ClockTells clockLimits n told (λ e. (e, refl)) (λ e. e)
+
+-- the pressure of a head between two levels is in range
+pub pressure-within : {h : ℤ} → Within h (levelLimits .most) → Within ((pressureOf (head h)) .0) mostHeadPressure
+unfolding pressureOf
+pressure-within w = within-cut (lit< tt) (within-mul w (within-pos 981))

@@ -1,6 +1,5 @@
 -- What a result says of an element keeps its range.
 use Prim.Native.Nat.{ℕ, _≤_}
-use lib.Dec.{lit<}
 use lib.IntN.{ℤ, pos, _-ℤ_}
 use mathlib.Core.Bool.{true}
 use mathlib.Core.List.{List}
@@ -12,19 +11,15 @@ use Rattle.laws.proofs.Sizes.{signed-between}
 use Rattle.laws.proofs.VoidRatio.{water-on-curve}
 use Rattle.layer.specs.Soil.{OnSoil}
 use Rattle.numbers.specs.Interval.{Within}
-use Rattle.numbers.proofs.Interval.{intervals, within-add, within-cut, within-mul, within-pos}
+use Rattle.numbers.proofs.Interval.{intervals, within-add}
 use Rattle.numbers.proofs.Searches.{passed}
 use Rattle.numbers.proofs.Signed.{one-sided, sub-parts}
 use Rattle.result_elements.specs.Elements.{mostHeight, mostPore}
-use Rattle.quantities.specs.Quantities.{head, levelLimits, pressureOf, solidsLimits, stressLimits, waterLimits, withinℤ, mostHeadPressure}
+use Rattle.quantities.proofs.Limits.{pressure-within}
+use Rattle.quantities.specs.Quantities.{levelLimits, solidsLimits, stressLimits, waterLimits, withinℤ}
 use Rattle.rules.specs.Curve.{Point, points, valueOf, compressibilitySound}
 use Rattle.rules.specs.Layer.{skeletonOf, voidRatio, effectiveStress, excessPressure}
 use Rattle.rules.specs.Result.{nodeHeight, poreOver}
-
--- the pressure of a head between two levels is in range
-pub pressure-within : {h : ℤ} → Within h (levelLimits .most) → Within ((pressureOf (head h)) .0) mostHeadPressure
-unfolding pressureOf
-pressure-within w = within-cut (lit< tt) (within-mul w (within-pos 981))
 
 module _ (level : ℤ) (z : ℕ) (limited : withinℤ levelLimits level ≡ true) (low : z ≤ levelLimits .most) where
   pub level-within : Within level (levelLimits .most)

@@ -5,7 +5,8 @@ use mir.Val.{SFits}
 use Rattle.numbers.specs.Interval.{Within}
 use Rattle.numbers.proofs.Interval.{within-fits}
 use Rattle.numbers.proofs.Signed.{readBack, readUnsigned}
-use Rattle.result_elements.proofs.Ranges.{level-within, head-within, pressure-within, pore-within}
+use Rattle.result_elements.proofs.Ranges.{level-within, head-within, pore-within}
+use Rattle.quantities.proofs.Limits.{pressure-within}
 use Rattle.quantities.specs.Quantities.{head, levelLimits, pressureOf}
 use Rattle.rules.specs.Result.{poreOver}
 use Rattle.quantities.specs.declared.Pressure.{Pressure}
