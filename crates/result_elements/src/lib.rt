@@ -9,10 +9,10 @@ ghost use Rattle.layer.specs.Soil.{OnSoil};
 ghost use Rattle.numbers.specs.Arrays.{firstPlaces};
 ghost use Rattle.numbers.specs.Interval.{Within};
 ghost use Rattle.result_elements.specs.Elements.{mostHeight, mostPore};
-ghost use Rattle.rules.specs.Curve.{points, compressibilitySound};
+ghost use Rattle.rules.specs.Curve.{points, valueOf, compressibilitySound};
 ghost use Rattle.quantities.specs.Quantities.{levelLimits, solidsLimits, stressLimits, waterLimits, pressure, withinℤ, elementLimits, curveLimits};
-ghost use Rattle.rules.specs.Result.{nodeHeight, poreOver, elementWords, elementBytes, elementsBytes};
-ghost use Rattle.rules.specs.Layer.{skeletonOf};
+ghost use Rattle.rules.specs.Result.{nodeHeight, poreOver, porePressure, elementWords, elementBytes, elementsBytes};
+ghost use Rattle.rules.specs.Layer.{skeletonOf, effectiveStress};
 use curves::reading;
 use quantities::Head;
 use quantities::Pressure;
@@ -57,6 +57,40 @@ pub fn write_words(
     encoding::put_signed(out, at + 32, pore.0);
 }
 
+// The effective stress and the pore pressure of an element.
+pub struct Stresses {
+    pub effective: u64,
+    pub pore: Pressure,
+}
+
+// Those of an element on the curve, over the height of all below.
+pub fn element_stresses<'a>(
+    load: Pressure,
+    top_level: Head,
+    below: u64,
+    burden: u64,
+    solids: u64,
+    water: u64,
+    skeleton: Skeleton,
+    void: &'a [u64; 64],
+    stress: &'a [u64; 64],
+) -> Stresses
+    requires { ⌜ (below ≤ mostHeight) × (withinℤ levelLimits («top_level» .0) ≡ true) ⌝ }
+    requires { ⌜ (curveLimits .least ≤ (skeleton .points)) × ((skeleton .points) ≤ curveLimits .most) ⌝ }
+    requires { ⌜ compressibilitySound (points (skeleton .points) (now void) (now stress)) ≡ true ⌝ }
+    requires { ⌜ OnSoil (skeleton .points) (now void) (now stress) (load .0) burden solids water ⌝ }
+    ensures { λ r. ⌜ r .effective ≡ valueOf (effectiveStress (skeletonOf (points (skeleton .points) (now (void .entry)) (now (stress .entry)))) solids water) ⌝ }
+    ensures { λ r. ⌜ r .pore ≡ pressure (porePressure (skeletonOf (points (skeleton .points) (now (void .entry)) (now (stress .entry)))) («top_level» .0) (load .0) below burden solids water) ⌝ }
+    ensures { λ r. ⌜ (r .effective ≤ stressLimits .most) × Within (r .pore .0) mostPore ⌝ }
+{
+    let found = element::effective_stress(solids, water, skeleton, void, stress, 0);
+    let value = found.value;
+    let effective = reading::value_of(value);
+    let excess = element::excess_pressure(load, burden, effective);
+    let pore = pore_pressure(excess, top_level, node_height(below, solids, water));
+    Stresses { effective, pore }
+}
+
 // Stores an element's water, void ratio, effective stress, total stress and pore pressure.
 pub fn write_element<'a>(
     out: &mut [u8],
@@ -78,18 +112,24 @@ pub fn write_element<'a>(
     requires { ⌜ OnSoil (skeleton .points) (now void) (now stress) (load .0) burden solids water ⌝ }
     ensures { λ _. ⌜ now (out .exit) ≡ sets (now (out .entry)) at (elementBytes (skeletonOf (points (skeleton .points) (now (void .entry)) (now (stress .entry)))) («top_level» .0) (load .0) below burden solids water) ⌝ }
 {
-    let found = element::effective_stress(solids, water, skeleton, void, stress, 0);
-    let value = found.value;
-    let effective = reading::value_of(value);
-    let excess = element::excess_pressure(load, burden, effective);
-    let pore = pore_pressure(excess, top_level, node_height(below, solids, water));
+    let read = element_stresses(
+        load,
+        top_level,
+        below,
+        burden,
+        solids,
+        water,
+        skeleton,
+        void,
+        stress,
+    );
     write_words(
         out,
         at,
         water,
         element::void_ratio(solids, water),
-        effective,
-        pore,
+        read.effective,
+        read.pore,
     );
 }
 
