@@ -1,0 +1,2 @@
+-- The rule of the table.
+pub mod Table
