@@ -1,0 +1,3 @@
+-- The meaning of a float's bits.
+pub mod Binary32
+pub mod Ieee754
