@@ -1,0 +1,2 @@
+-- What the contracts of readings cite beside the rules.
+pub mod Conversion
