@@ -1,0 +1,2 @@
+-- The laws of an element's pore pressure.
+pub mod Heights

@@ -1,0 +1,2 @@
+-- What the contracts of pore cite beside the rules.
+pub mod Pore
