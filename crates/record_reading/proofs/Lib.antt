@@ -1,0 +1,2 @@
+-- The laws of a reading on a record.
+pub mod ComparedLaws
