@@ -1,0 +1,2 @@
+-- The laws of readings and answers as words.
+pub mod WordLaws

@@ -1,0 +1,2 @@
+-- What the contracts of field_data cite beside the rules.
+pub mod Words
