@@ -2,7 +2,8 @@
  *
  * A job describes a layer, its loading, an end time and a budget of steps. `consolidation_key` opens the layer, runs
  * it to the end or until the budget is used, and writes the key: what the layer is then. `consolidation_job` writes a
- * job from the numbers of a description.
+ * job from the numbers of a description. `consolidation_readings` compares piezometer readings with the pore pressures
+ * of the layer that a job's run leaves.
  *
  * Bytes
  *
@@ -92,6 +93,31 @@
  *  588   64   load table: loads
  *
  * Places of an array past its count are not looked at.
+ *
+ * Reading
+ *
+ * A piezometer reading is three numbers of 64 bits, each the machine's own:
+ *
+ *   at  words
+ *    0    1   element, 1 for the lowest to N
+ *    1    1   kind: 1 a pressure in kPa, 2 a water column in m, any other number a missing reading
+ *    2    1   the 32 bits of the reading, an IEEE 754 binary32, in the lower half; the upper half is not looked at,
+ *             and nothing of it where the reading is missing
+ *
+ * The reading's exact value, a whole number times a power of two, becomes mPa or nm and is cut toward zero; nm become
+ * mPa as every head of water does, head x 981 / 100,000, cut again. Minus zero is 0.
+ *
+ * Its answer is five numbers:
+ *
+ *   at  words
+ *    0    1   0, or why the reading is refused: 19 or 18, tested in this order
+ *    1    1   1 if the reading is missing, otherwise 0
+ *    2    1   the exact value, mPa of a pressure, nm of a column, signed
+ *    3    1   pore pressure of the element, mPa, signed
+ *    4    1   the reading minus the pore pressure, mPa, signed
+ *
+ * Signed numbers are in two's complement: `(int64_t)answers[4]`. Of a refused reading all but the first are 0, of a
+ * missing one all but the second and the pore pressure.
  */
 #ifndef CONSOLIDATION_KEY_H
 #define CONSOLIDATION_KEY_H
@@ -140,13 +166,22 @@ enum {
     CONSOLIDATION_DESCRIPTION_WORDS = 652
 };
 
+/* Words of a reading and of its answer, and the kinds of readings. */
+enum {
+    CONSOLIDATION_READING_WORDS = 3,
+    CONSOLIDATION_ANSWER_WORDS = 5,
+    CONSOLIDATION_MISSING = 0,
+    CONSOLIDATION_PRESSURE = 1,
+    CONSOLIDATION_COLUMN = 2
+};
+
 /* Bytes of a job with so many elements and points, and of the result of a job with so many elements. */
 #define CONSOLIDATION_JOB_BYTES(elements, curve1, curve2, table) \
     ((size_t)48 + (size_t)16 * ((size_t)(elements) + (size_t)(curve1) + (size_t)(curve2) + (size_t)(table)))
 #define CONSOLIDATION_RESULT_BYTES(elements) ((size_t)56 + (size_t)40 * (size_t)(elements))
 
-/* Why a key or a job is withheld. Causes are tested in the order of their numbers, and the first that holds is the
- * answer. */
+/* Why a key, a job or an answer is withheld. Causes are tested in the order of their numbers, but 19 before 18, and
+ * the first that holds is the answer. */
 enum {
     CONSOLIDATION_DONE = 0,               /* no cause: the result is written */
     CONSOLIDATION_NO_JOB = 1,             /* fewer than 48 bytes, or they do not begin with LSC */
@@ -165,8 +200,11 @@ enum {
                                              not rise */
     CONSOLIDATION_BAD_START = 9,          /* start 0: an element's void ratio is off the compressibility curve;
                                              start 1: the curve has no state of rest for an element */
-    CONSOLIDATION_SHORT_RESULT = 10,      /* result_length is less than the result has */
-    CONSOLIDATION_SHORT_JOB = 17          /* job_length is less than the job has */
+    CONSOLIDATION_SHORT_RESULT = 10,      /* result_length is less than the result has; of readings, answers_length
+                                             is less than the answers need */
+    CONSOLIDATION_SHORT_JOB = 17,         /* job_length is less than the job has */
+    CONSOLIDATION_BAD_READING = 18,       /* a reading is not finite, or above 2,000 kPa or 200 m in size */
+    CONSOLIDATION_BAD_ELEMENT = 19        /* the element of a reading is not 1 to N */
 };
 
 /* Byte 5 of a result. */
@@ -236,6 +274,39 @@ uint32_t consolidation_key(const uint8_t *job, size_t job_length, uint8_t *resul
  *         fwrite(job, 1, length, file);
  */
 uint64_t consolidation_job(const uint64_t *description, size_t words, uint8_t *job, size_t job_length);
+
+/* Works the job and answers readings on the layer that its run leaves, at the job's own end or where its run stopped.
+ *
+ * `job` has `job_length` bytes and `readings` has `readings_length` words, three for each reading; both are read and
+ * not changed. Words of a last reading that lacks some are not looked at. `answers` has `answers_length` words, which
+ * may be more than the answers need: five for each reading. Any bytes and numbers will do. No pointer may be null,
+ * whatever its length. `answers` must not overlap the others. No pointer is kept.
+ *
+ * Returns 0 when the answers are written, one after the other in the order of the readings: those words are, and the
+ * ones after them are as they were. Each reading is answered or refused by itself. Otherwise it returns the number of
+ * the cause, and all of `answers` is as it was: 1 to 9, by the tests that `consolidation_key` makes, and last 10. No
+ * other number is returned.
+ *
+ * Memory, state and threads are as for the key; it uses less than 40 KiB of stack. It takes the time of the key,
+ * and for each reading a time in proportion to N.
+ *
+ * Example, of one reading of 12.5 kPa in the second element:
+ *
+ *     float kilopascals = 12.5f;
+ *     uint32_t bits;
+ *     memcpy(&bits, &kilopascals, sizeof bits);
+ *     uint64_t reading[CONSOLIDATION_READING_WORDS] = {2, CONSOLIDATION_PRESSURE, bits};
+ *     uint64_t answer[CONSOLIDATION_ANSWER_WORDS];
+ *     uint32_t cause = consolidation_readings(job, length, reading, 3, answer, 5);
+ *     if (cause != CONSOLIDATION_DONE)
+ *         fprintf(stderr, "refused %u\n", (unsigned)cause);
+ *     else if (answer[0] != CONSOLIDATION_DONE)
+ *         fprintf(stderr, "reading refused %u\n", (unsigned)answer[0]);
+ *     else
+ *         printf("%lld mPa above the pore pressure\n", (long long)(int64_t)answer[4]);
+ */
+uint32_t consolidation_readings(const uint8_t *job, size_t job_length, const uint64_t *readings,
+                                size_t readings_length, uint64_t *answers, size_t answers_length);
 
 #ifdef __cplusplus
 }

@@ -135,15 +135,15 @@ module _ (job : List ℕ) (done : (opening job) .answer ≡ Done) where
 -- ---- the numbers that the key returns
 
 -- the number of each cause that opening tests is 9 at most
-AtMost9 : Refusal → Type 0
+abbrev pub AtMost9 : Refusal → Type 0
 AtMost9 cause = refusalNumber cause ≤ 9
 
 causes-numbered : (job : List ℕ) → Every (λ trial. AtMost9 (trial .cause)) (jobCauses job)
-unfolding jobCauses framingCauses describedCauses Every AtMost9 refusalNumber
+unfolding jobCauses framingCauses describedCauses Every refusalNumber
 causes-numbered job = (lit≤ tt, (lit≤ tt, (lit≤ tt, (lit≤ tt, (lit≤ tt, (lit≤ tt, (lit≤ tt, (lit≤ tt, tt))))))))
 
-opening-numbered : (job : List ℕ) → ((cause : Refusal) × ((opening job ≡ refusedOpening cause) × AtMost9 cause)) ⊎ ((opening job) .answer ≡ Done)
-unfolding opening AtMost9 refusalNumber
+pub opening-numbered : (job : List ℕ) → ((cause : Refusal) × ((opening job ≡ refusedOpening cause) × AtMost9 cause)) ⊎ ((opening job) .answer ≡ Done)
+unfolding opening refusalNumber
 opening-numbered job = found (firstCause (jobCauses job)) refl (descriptionWater (described job))
   where
     found : (first : Option Refusal) → firstCause (jobCauses job) ≡ first → (water : Option (List ℕ)) →
@@ -169,7 +169,7 @@ run-number r end budget buffer = go (ltb (length buffer) (resultSize (r .layer .
 
 -- The key returns 0, or the number of one of the causes 1 to 10.
 pub key-numbers : (job buffer : List ℕ) → (key job buffer) .number ≤ 10
-unfolding refusedResult refusedOpening AtMost9
+unfolding refusedResult refusedOpening
 key-numbers job buffer =
     ⊎-elim
     (λ (cause, (is, small)). rw (key-refused job buffer cause (ap (λ (a : Answered). a .answer) is)) (omega arith))

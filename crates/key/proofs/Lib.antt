@@ -1,4 +1,6 @@
 -- What the key does with a job that opening accepts, and the specimen's key.
 pub mod KeyLaws
 pub mod Layers
+pub mod ReadingLaws
+pub mod SameKey
 pub mod Specimen

@@ -1,2 +1,3 @@
--- What the key leaves in an array that it is lent.
+-- What the C functions leave in what they are lent, beside the rules.
 pub mod Water
+pub mod Readings
