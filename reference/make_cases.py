@@ -1,15 +1,17 @@
 #!/usr/bin/env python3
-"""Writes cases for tests/harness.c to standard output: jobs and descriptions, lengths of the buffers that they are
-worked into, and the reference's answers.
+"""Writes cases for tests/harness.c to standard output: jobs, descriptions and readings, lengths of the buffers that
+they are worked into, and the reference's answers.
 
     python3 make_cases.py SEED COUNT
 
-The same seed and count always give the same cases, at least COUNT jobs and then at least COUNT descriptions.
+The same seed and count always give the same cases, at least COUNT jobs, then at least COUNT descriptions, then at least
+a third as many jobs with readings.
 
 OUTPUT  Words are 64 bits, little-endian. For each case: kind (1 a job for the key, 2 a description for the writer of
-        jobs); bytes of the job or of the description's words; room (bytes of the buffer); number that has to be
-        returned; bytes that have to be written at the start of the buffer, none if it is refused; the job or the
-        words; the bytes to be written. After the last case a 0 and the number of cases.
+        jobs, 3 a job with readings); bytes of the job or of the description's words; bytes of the readings' words,
+        else 0; room (bytes of the buffer); number that has to be returned; bytes that have to be written at the start
+        of the buffer, none if it is refused; the job or the words; the readings; the bytes to be written, which for
+        readings are words too. After the last case a 0 and the number of cases.
 """
 
 from __future__ import annotations
@@ -27,6 +29,8 @@ import damage  # noqa: E402
 import description_cases as descriptions  # noqa: E402
 import make_descriptions  # noqa: E402
 import makers  # noqa: E402
+import piezometer  # noqa: E402
+import reading_cases as readings  # noqa: E402
 import rules  # noqa: E402
 from chance import Chance  # noqa: E402
 from make_scenarios import words  # noqa: E402
@@ -36,7 +40,7 @@ SHORT_RUN, LONG_RUN = 150, 20_000  # element-steps of a run
 SMALL = 400                        # bytes of a small job
 MOST_ROOM = 8_192
 
-KEY_CASE, WRITER_CASE = 1, 2
+KEY_CASE, WRITER_CASE, READINGS_CASE = 1, 2, 3
 
 
 def case_bytes(vector: Vector) -> bytes:
@@ -44,14 +48,23 @@ def case_bytes(vector: Vector) -> bytes:
     buffer = bytearray(vector.room)
     number = rules.key_into(vector.job, buffer)
     result = b"" if number else bytes(buffer[:needed(vector.job)])
-    return words([KEY_CASE, len(vector.job), vector.room, number, len(result)]) + vector.job + result
+    return words([KEY_CASE, len(vector.job), 0, vector.room, number, len(result)]) + vector.job + result
 
 
 def description_case_bytes(vector: make_descriptions.Vector) -> bytes:
     """A case of a description, with the reference's answer; a job that is written is read back as well."""
     worked = make_descriptions.Worked(vector)
     job = worked.job or b""
-    return words([WRITER_CASE, len(vector.body), vector.room, worked.number, len(job)]) + vector.body + job
+    return words([WRITER_CASE, len(vector.body), 0, vector.room, worked.number, len(job)]) + vector.body + job
+
+
+def readings_case_bytes(vector: readings.Vector) -> bytes:
+    """A case of a job with readings, with the reference's answers."""
+    answers = [0] * vector.room
+    number = piezometer.readings_into(vector.job, vector.words, answers)
+    given, written = words(vector.words), b"" if number else words(answers[:readings.needed(vector.words)])
+    head = words([READINGS_CASE, len(vector.job), len(given), 8 * vector.room, number, len(written)])
+    return head + vector.job + given + written
 
 
 # ----------------------------------------------------------------------------------------------------------------
@@ -144,6 +157,8 @@ FAMILIES: List[Tuple[int, Callable[[Chance], Iterator[Vector]]]] = [
     (6, truncations), (16, headers), (10, rooms), (4, random_bytes), (26, damaged)]
 LONG_RUNS = 1_000  # one longer run in so many cases
 FIRST_DESCRIPTION = 2**31  # number of the group before the first of descriptions
+FIRST_READINGS = 3 * 2**30  # number of the group before the first of readings
+JOBS_TO_READINGS = 3        # so many jobs for the key to one with readings
 
 
 class Groups:
@@ -190,17 +205,27 @@ def description_cases(seed: int, count: int) -> Iterator[make_descriptions.Vecto
     yield from groups.until(count, descriptions.sound)
 
 
+def reading_cases(seed: int, count: int) -> Iterator[readings.Vector]:
+    """At least so many jobs with readings."""
+    makers.AFFORDABLE = SHORT_RUN
+    groups = Groups(seed, FIRST_READINGS)
+    yield from groups.shares(count, readings.FAMILIES)
+    yield from groups.until(count, readings.sound)
+
+
 def all_cases(seed: int, count: int) -> Iterator[bytes]:
-    """The bytes of all cases, jobs first."""
+    """The bytes of all cases, jobs first, then descriptions."""
     yield from map(case_bytes, cases(seed, count))
     yield from map(description_case_bytes, description_cases(seed, count))
+    yield from map(readings_case_bytes, reading_cases(seed, -(-count // JOBS_TO_READINGS)))
 
 
 def main() -> int:
     """Write the cases of a command line."""
     parser = argparse.ArgumentParser(description=__doc__, formatter_class=argparse.RawDescriptionHelpFormatter)
     parser.add_argument("seed", type=int, metavar="SEED", help="a whole number of 0 or more")
-    parser.add_argument("count", type=int, metavar="COUNT", help="how many jobs and how many descriptions at least")
+    parser.add_argument("count", type=int, metavar="COUNT",
+                        help="how many jobs and how many descriptions at least; a third as many jobs with readings")
     chosen = parser.parse_args()
     written = 0
     try:

@@ -10,7 +10,7 @@ seed, so the files are the same on every machine.
 
 INPUT   Files of blocks, named in the file `args`. Words are 64 bits, little-endian; signed ones in two's complement.
         file      number of blocks, then the blocks: here lists, in the files of `make_vectors.py` and
-                  `make_descriptions.py` vectors
+                  `make_descriptions.py` vectors, in those of `make_readings.py` records with readings
         list      kind (0 a job, 1 a record), bytes of the body (at most 8,192), number of calls (at most 32); body;
                   calls
         job       the job's bytes
@@ -55,13 +55,14 @@ SEED = 20_000
 CRATE = os.path.join(os.path.dirname(HERE), "crates", "scenarios")
 
 # The files `args` and `stdout` have a share of the lists, then one of the vectors of make_vectors.py, whose files are
-# key_*, then one of those of make_descriptions.py, whose files are job_*.
+# key_*, then one of those of make_descriptions.py, whose files are job_*, then one of the readings of make_readings.py,
+# whose files are reading_*.
 SHARED = ("args", "stdout")
-LISTED, KEYS, JOBS = range(3)
-PREFIXES = {"key_": KEYS, "job_": JOBS}
-FIRST_FILES = (b"key_accepted", b"job_written")  # of the second share and of the third
+LISTED, KEYS, JOBS, READ = range(4)
+PREFIXES = {"key_": KEYS, "job_": JOBS, "reading_": READ}
+FIRST_FILES = (b"key_accepted", b"job_written", b"reading_limits")  # of the shares after the first
 
-JOB, RECORD, KEY, DESCRIPTION = range(4)
+JOB, RECORD, KEY, DESCRIPTION, READINGS = range(5)
 CALL_NUMBERS = {"load": 0, "step": 1, "run": 2}
 BODY_BYTES = 8_192
 CALLS = 32      # most calls of a list
@@ -899,7 +900,7 @@ def made_files(least: int, runs: bool) -> Tuple[Dict[str, bytes], Answers]:
 
 
 def shares(stored: bytes) -> List[bytes]:
-    """The shares of `args` or `stdout`; those of vectors begin with the name of their first file."""
+    """The shares of `args` or `stdout`; those after the first begin with the name of their first file."""
     ends = [len(stored)]
     for first in reversed(FIRST_FILES):
         at = stored.find(first + b"\n")
@@ -907,12 +908,17 @@ def shares(stored: bytes) -> List[bytes]:
     return [stored[start:end] for start, end in zip([0] + ends, ends)]
 
 
+def share_of(name: str) -> int:
+    """The share that a file's name belongs to."""
+    return next((share for prefix, share in PREFIXES.items() if name.startswith(prefix)), LISTED)
+
+
 def stored_files(share: int) -> Dict[str, bytes]:
-    """The stored files of the lists or of vectors, with their share of `args` and `stdout`."""
+    """The stored files of a share, with their part of `args` and `stdout`."""
     folder = os.path.join(CRATE, "data")
     found = {}
     for name in sorted(os.listdir(folder)) if os.path.isdir(folder) else []:
-        if PREFIXES.get(name[:4], LISTED) == share:
+        if share_of(name) == share:
             with open(os.path.join(folder, name), "rb") as source:
                 found[os.path.join("data", name)] = source.read()
     for name in SHARED:
@@ -929,7 +935,7 @@ def difference(stored: bytes, made: bytes) -> str:
 
 
 def check(made: Dict[str, bytes], share: int = LISTED) -> int:
-    """Compare the made files with the stored ones, of the lists or of vectors; 1 where they differ."""
+    """Compare the made files with the stored ones of a share; 1 where they differ."""
     stored = stored_files(share)
     faults = ["%s: should not be there" % name for name in stored if name not in made]
     faults += ["%s: missing" % name for name in made if name not in stored]
@@ -941,8 +947,8 @@ def check(made: Dict[str, bytes], share: int = LISTED) -> int:
 
 
 def write(made: Dict[str, bytes], share: int = LISTED) -> None:
-    """Store the made files, of the lists or of vectors, in place of the old ones."""
-    stored = [stored_files(each) for each in (LISTED, KEYS, JOBS)]
+    """Store the made files of a share in place of the old ones."""
+    stored = [stored_files(each) for each in (LISTED, KEYS, JOBS, READ)]
     os.makedirs(os.path.join(CRATE, "data"), exist_ok=True)
     for name in stored[share]:
         os.remove(os.path.join(CRATE, name))

@@ -14,6 +14,9 @@ As a module, in rules.py:
     result_bytes(record, stop, steps) -> bytes
     key_into(job, buffer) -> refusal         key(job) -> (refusal, result)
     write_job(description, buffer) -> length or refusal
+In piezometer.py:
+    reading_call(record, reading) -> (refusal, missing, difference)
+    readings_into(job, words, answers) -> refusal
 A refusal of 0 means that the call was accepted. A refused call leaves its record or buffer as it was.
 """
 

@@ -20,8 +20,10 @@ sys.path.insert(0, HERE)
 import damage  # noqa: E402
 import lists  # noqa: E402
 import makers  # noqa: E402
+import piezometer  # noqa: E402
 import rules  # noqa: E402
 from chance import Chance  # noqa: E402
+from piezometer import COLUMN, PRESSURE, Reading  # noqa: E402
 
 SEED = 1
 PROGRAM = os.path.join(HERE, "reference.py")
@@ -401,6 +403,200 @@ class Writer(unittest.TestCase):
                 self.assertEqual(rules.read_description(job).groups(), description.groups())
         self.assertEqual(sorted(answers), [3, 5, 6, 7, 8, 9, 18])
         self.assertGreater(min(answers.values()), 9)
+
+
+class Floats(unittest.TestCase):
+    """Bits of floats, and what they are in mPa and nm; worked by hand from the float's whole number and power."""
+
+    NOT_FINITE = (0x7F800000, 0x7F800001, 0x7FA00000, 0x7FBFFFFF, 0x7FC00000, 0x7FC12345, 0x7FFFFFFF)
+    # Bits, the whole number and the power of two, then mPa of as many kPa and nm of as many metres; None if refused.
+    WORKED = [
+        (0x3F800000, 2**23, -23, 1_000_000, 1_000_000_000),             # 1
+        (0x3F000000, 2**23, -24, 500_000, 500_000_000),                 # 0.5
+        (0x3FC00000, 3 * 2**22, -23, 1_500_000, 1_500_000_000),         # 1.5
+        (0x42C43333, 12_858_163, -17, 98_099_998, 98_099_998_474),      # 98.09999847412109375
+        (0x3DCCCCCD, 13_421_773, -27, 100_000, 100_000_001),            # 0.100000001490116...
+        (0x3E99999A, 10_066_330, -25, 300_000, 300_000_011),            # 0.3000000119209...
+        (0x3E999999, 10_066_329, -25, 299_999, 299_999_982),            # 0.2999999821186...
+        (0x44FA0000, 16_384_000, -13, 2_000_000_000, None),             # 2,000
+        (0x44FA0001, 16_384_001, -13, None, None),
+        (0x44F9FFFF, 16_383_999, -13, 1_999_999_877, None),             # 1,999.9998779296875
+        (0x43480000, 13_107_200, -16, 200_000_000, 200_000_000_000),    # 200
+        (0x43480001, 13_107_201, -16, 200_000_015, None),               # 200.0000152587890625
+        (0x4347FFFF, 13_107_199, -16, 199_999_984, 199_999_984_741),    # 199.9999847412109375
+        (0x358637BD, 8_796_093, -43, 0, 999),                           # 0.99999999747 millionths
+        (0x358637BE, 8_796_094, -43, 1, 1_000),                         # 1.00000011116 millionths
+        (0x3089705F, 9_007_199, -53, 0, 0),                             # 0.99999997 thousand-millionths
+        (0x30897060, 9_007_200, -53, 0, 1),                             # 1.00000008 thousand-millionths
+        (0x00800000, 2**23, -149, 0, 0), (0x007FFFFF, 2**23 - 1, -149, 0, 0), (0x00000001, 1, -149, 0, 0),
+        (0x00000000, 0, -149, 0, 0), (0x7F7FFFFF, 2**24 - 1, 104, None, None), (0x4B800000, 2**23, 1, None, None)]
+
+    def test_worked(self) -> None:
+        for bits, whole, power, pressure, column in self.WORKED:
+            self.assertEqual(piezometer.float_parts(bits), (whole, power), hex(bits))
+            self.assertEqual(piezometer.float_value(bits), whole * Fraction(2)**power, hex(bits))
+            self.assertEqual(piezometer.converted(PRESSURE, bits), pressure, hex(bits))
+            self.assertEqual(piezometer.converted(COLUMN, bits), column, hex(bits))
+
+    def test_below_zero_is_cut_toward_zero(self) -> None:
+        self.assertEqual(piezometer.converted(PRESSURE, 0xBE99999A), -300_000)  # -300,000.0119
+        self.assertEqual(piezometer.converted(PRESSURE, 0xBE999999), -299_999)  # -299,999.982
+        for bits, whole, power, pressure, column in self.WORKED:
+            self.assertEqual(piezometer.float_parts(bits | 2**31), (-whole, power), hex(bits))
+            for kind, value in ((PRESSURE, pressure), (COLUMN, column)):
+                self.assertEqual(piezometer.converted(kind, bits | 2**31), None if value is None else -value, hex(bits))
+
+    def test_not_finite(self) -> None:
+        for bits in self.NOT_FINITE:
+            for signed in (bits, bits | 2**31):
+                self.assertEqual((piezometer.float_parts(signed), piezometer.float_value(signed)), (None, None))
+                for kind in (PRESSURE, COLUMN):
+                    self.assertIsNone(piezometer.converted(kind, signed), hex(signed))
+
+    def test_machine_floats(self) -> None:
+        chance, refused = Chance(SEED, 0), 0
+        for exponent in range(256):
+            for fraction in (0, 1, 0x400000, 0x7FFFFF, chance.between(0, 0x7FFFFF)):
+                bits = chance.between(0, 1) << 31 | exponent << 23 | fraction
+                number = struct.unpack("<f", struct.pack("<I", bits))[0]
+                value = Fraction(number) if math.isfinite(number) else None
+                self.assertEqual(piezometer.float_value(bits), value, hex(bits))
+                refused += value is None
+        self.assertEqual(refused, 5)
+
+    def test_column_is_cut_twice(self) -> None:
+        # 14,346,330 / 2^47 m are 101.93680566 nm, which are 1.00000006 mPa; cut to 101 nm they are 0.99081 mPa.
+        for bits, nanometres, pressure, once in ((0x33DAE85A, 101, 0, 1), (0x345AE85A, 203, 1, 2),
+                                                 (0x372B0586, 10_193, 99, 100), (0x33DB0B18, 102, 1, 1)):
+            for sign in (1, -1):
+                signed = bits | (2**31 if sign < 0 else 0)
+                value = piezometer.converted(COLUMN, signed)
+                self.assertEqual(value, sign * nanometres)
+                self.assertEqual(piezometer.as_pressure(COLUMN, value), sign * pressure)
+                self.assertEqual(math.trunc(piezometer.float_value(signed) * 9_810_000), sign * once)
+        self.assertEqual(piezometer.as_pressure(COLUMN, 98_099_998_474), 962_360_985)
+        self.assertEqual(piezometer.as_pressure(COLUMN, -200_000_000_000), -1_962_000_000)
+        self.assertEqual(piezometer.as_pressure(PRESSURE, -7), -7)
+
+
+class Readings(unittest.TestCase):
+    """Readings against records and jobs. After its step the specimen's pore pressures are 10,083,385 and 8,694,921."""
+
+    ONE, LOUD, HIGH = 0x3F800000, 0x42C43333, 0x44FA0001  # 1, 98.1, and more than 2,000
+
+    def stepped(self) -> rules.Record:
+        """The specimen after its step of 100 seconds."""
+        record = opened(specimen())
+        self.assertEqual(rules.step_call(record, 100), 0)
+        return record
+
+    def answer(self, record: rules.Record, element: int, kind: int, word: int) -> Tuple[int, int, int]:
+        """Answer to a reading; the record has to stay as it was."""
+        before = record.copy()
+        answer = piezometer.reading_call(record, Reading(element, kind, word))
+        self.assertEqual(record, before)
+        return answer
+
+    def test_specimen(self) -> None:
+        for element, kind, word, answer in (
+                (1, 1, self.LOUD, (0, 0, 98_099_998 - 10_083_385)), (2, 1, self.LOUD, (0, 0, 98_099_998 - 8_694_921)),
+                (1, 2, self.ONE, (0, 0, 9_810_000 - 10_083_385)), (2, 2, self.ONE, (0, 0, 9_810_000 - 8_694_921)),
+                (2, 2, self.LOUD, (0, 0, 962_360_985 - 8_694_921)), (1, 1, 0, (0, 0, -10_083_385)),
+                (1, 1, 2**31, (0, 0, -10_083_385)), (2, 2, 2**31, (0, 0, -8_694_921)),
+                (1, 1, self.ONE | 2**31, (0, 0, -11_083_385)), (1, 2, self.ONE | 2**31, (0, 0, -19_893_385)),
+                (2, 1, 0x44FA0000, (0, 0, 1_991_305_079)), (2, 2, 0x43480000, (0, 0, 1_953_305_079)),
+                (2, 1, 0xC4FA0000, (0, 0, -2_008_694_921)), (2, 2, 0xC3480000, (0, 0, -1_970_694_921)),
+                (1, 0, self.ONE, (0, 1, 0)), (2, 3, 0x7F800000, (0, 1, 0))):
+            self.assertEqual(self.answer(self.stepped(), element, kind, word), answer, (element, kind, hex(word)))
+
+    def test_pore_pressure_is_that_of_the_result(self) -> None:
+        compared = 0
+        for job in makers.make_inputs("jobs", SEED, 60):
+            refusal, result = rules.key(job)
+            if refusal == 0:
+                answers = [0] * 5 * result[6]
+                readings = [number for j in range(result[6]) for number in (j + 1, 1, 0)]
+                self.assertEqual(piezometer.readings_into(job, readings, answers), 0)
+                pores = [struct.unpack("<Q", result[at + 32:at + 40])[0] for at in range(56, len(result), 40)]
+                self.assertEqual(answers[3::5], pores)
+                compared += len(pores)
+        self.assertGreater(compared, 200)
+
+    def test_words_are_judged_whole(self) -> None:
+        record = self.stepped()
+        for kind in (0, 3, 256, 257, 258, 2**32, 2**32 + 1, 2**32 + 2, 2**63 + 1, 2**64 - 1):
+            for word in (0, self.ONE, self.HIGH, 0x7FC00000, 2**64 - 1):
+                self.assertEqual(self.answer(record, 1, kind, word), (0, 1, 0), (kind, hex(word)))
+                self.assertEqual(self.answer(record, 3, kind, word), (19, 0, 0), (kind, hex(word)))
+        for element in (0, 3, 128, 129, 256, 257, 2**32, 2**32 + 1, 2**63 + 1, 2**64 - 1):
+            for kind in (0, 1, 2):
+                self.assertEqual(self.answer(record, element, kind, self.ONE), (19, 0, 0), (element, kind))
+        for upper in (1, 0x7F800000, 0x80000000, 0xFFFFFFFF):
+            self.assertEqual(self.answer(record, 1, 1, self.LOUD | upper << 32), (0, 0, 88_016_613), hex(upper))
+
+    def test_order_of_causes(self) -> None:
+        record = self.stepped()
+        for kind in (1, 2):
+            for word in (self.HIGH, self.HIGH | 2**31) + Floats.NOT_FINITE:
+                self.assertEqual(self.answer(record, 2, kind, word), (18, 0, 0), (kind, hex(word)))
+                for element in (0, 3, 2**64 - 1):
+                    self.assertEqual(self.answer(record, element, kind, word), (19, 0, 0), (kind, hex(word)))
+        for broken in (rules.Record(), replace(record, clock=0), replace(record, load=2_000_000_001)):
+            for element, kind, word in ((1, 1, self.ONE), (1, 0, 0), (0, 1, self.HIGH), (9, 2, 0x7FC00000), (0, 0, 0)):
+                self.assertEqual(self.answer(broken, element, kind, word), (11, 0, 0))
+
+    def test_limits(self) -> None:
+        record = self.stepped()
+        for kind, bits in ((1, 0x44FA0000), (2, 0x43480000)):
+            for sign in (0, 2**31):
+                for more, number in ((-1, 0), (0, 0), (1, 18), (2, 18)):
+                    self.assertEqual(self.answer(record, 1, kind, bits + more | sign)[0], number, (kind, sign, more))
+
+    def worked(self, job: bytes, words: List[int], room: int) -> Tuple[int, List[int]]:
+        """Number and answers of readings of a job; all other words of the list have to stay."""
+        answers = [7] * room
+        before = list(words)
+        number = piezometer.readings_into(job, words, answers)
+        written = 0 if number else 5 * (len(words) // 3)
+        self.assertEqual((len(answers), answers[written:], words), (room, [7] * (room - written), before))
+        return number, answers[:written]
+
+    def test_readings_of_a_job(self) -> None:
+        job = rules.job_bytes(specimen())
+        words = [1, 1, self.LOUD, 2, 2, self.ONE, 2, 9, 0, 3, 1, self.ONE, 1, 1, self.HIGH, 1, 1, 0xBE99999A,
+                 2, 2, self.ONE | 2**31]
+        answers = [0, 0, 98_099_998, 10_083_385, 88_016_613] + [0, 0, 1_000_000_000, 8_694_921, 1_115_079] \
+            + [0, 1, 0, 8_694_921, 0] + [19, 0, 0, 0, 0] + [18, 0, 0, 0, 0] \
+            + [0, 0, 2**64 - 300_000, 10_083_385, 2**64 - 10_383_385] \
+            + [0, 0, 2**64 - 1_000_000_000, 8_694_921, 2**64 - 18_504_921]
+        for room in (35, 36, 100):
+            self.assertEqual(self.worked(job, words, room), (0, answers))
+        for room in (0, 1, 5, 34):
+            self.assertEqual(self.worked(job, words, room), (10, []))
+        for count in range(len(words)):
+            self.assertEqual(self.worked(job, words[:count], 35), (0, answers[:5 * (count // 3)]))
+        self.assertEqual(self.worked(job, [], 0), (0, []))
+        self.assertEqual(self.worked(job, [1, 1], 0), (0, []))
+
+    def test_run_comes_before_the_readings(self) -> None:
+        words = [1, 0, 0, 2, 0, 0]
+        for changes, pores in (({"budget": 0}, [10_083_385, 10_053_955]), ({}, [10_083_385, 8_694_921])):
+            answers = self.worked(rules.job_bytes(specimen(**changes)), words, 10)[1]
+            self.assertEqual(answers[3::5], pores)
+        dry = specimen(top_level=0, table=[(0, 0)], end=0)
+        self.assertEqual(self.worked(rules.job_bytes(dry), words, 10)[1][3::5], [2**64 - 5_014_715, 2**64 - 5_044_145])
+
+    def test_refused_jobs(self) -> None:
+        for cause, changes in Refusals.CHANGES.items():
+            for number, change in enumerate(changes):
+                job = specimen()
+                change(job)
+                for room in (0, 4, 5, 9):
+                    answer = self.worked(rules.job_bytes(job), [1, 1, self.ONE], room)
+                    self.assertEqual(answer, (cause, []), (cause, number, room))
+        job = rules.job_bytes(specimen())
+        for length, cause in ((0, 1), (47, 1), (48, 4), (159, 4)):
+            self.assertEqual(self.worked(job[:length], [1, 1, self.ONE], 0), (cause, []))
 
 
 class Runs(unittest.TestCase):

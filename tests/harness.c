@@ -1,7 +1,7 @@
-// Calls the key on every job and the writer of jobs on every description of standard input, as reference/make_cases.py
-// writes them, and compares the number returned, the whole output buffer, the input and the bytes around both with what
-// the case says. Each case is worked twice: between guard bytes, and with input and output ending where a protected
-// page begins.
+// Calls the key on every job, the writer of jobs on every description and the answerer of readings on every job with
+// readings of standard input, as reference/make_cases.py writes them, and compares the number returned, the whole
+// output buffer, the inputs and the bytes around all of them with what the case says. Each case is worked twice:
+// between guard bytes, and with inputs and output ending where a protected page begins.
 #define _GNU_SOURCE
 #include <signal.h>
 #include <stdint.h>
@@ -14,23 +14,33 @@
 #include "consolidation_key.h"
 
 enum { MOST_BYTES = 65536, GUARD = 256, WORD = sizeof(uint64_t), NUMBERS = 11, STOPS = 4, REFUSALS = 18 };
+enum { READING = 3 * WORD, ANSWER = 5 * WORD, READING_NUMBERS = 20 };
 
-enum kind { END, KEY, WRITER };
+enum kind { END, KEY, WRITER, READINGS };
 
-// The input is a job for the key, or the words of a description for the writer.
+// The input is a job for the key, the words of a description for the writer, or a job with readings, which are words.
 struct test_case {
-    uint64_t kind, input_len, room, number, written;
-    uint8_t input[MOST_BYTES], output[MOST_BYTES];
+    uint64_t kind, input_len, readings_len, room, number, written;
+    uint8_t input[MOST_BYTES], readings[MOST_BYTES], output[MOST_BYTES];
 };
 
-// How many cases were answered by each number; a job's length counts as 0.
+// How many cases were answered by each number, a job's length counting as 0, and how many readings by each.
 struct tally {
-    uint64_t jobs, descriptions, numbers[NUMBERS], stops[STOPS], answers[REFUSALS];
+    uint64_t jobs, descriptions, lists, readings, missing;
+    uint64_t numbers[NUMBERS], stops[STOPS], answers[REFUSALS], list_numbers[NUMBERS];
+    uint64_t reading_numbers[READING_NUMBERS];
 };
 
 // Writable bytes in front of a protected page.
 struct area {
     uint8_t *start, *end;
+};
+
+// What is handed to a function: bytes in an area, between guard bytes.
+struct part {
+    const char *name;
+    uint8_t *bytes;
+    uint64_t len, behind;
 };
 
 static struct test_case current;
@@ -78,7 +88,10 @@ static int is_case(void)
         return 0;
     if (current.kind == KEY)
         return current.number < NUMBERS;
-    return current.kind == WRITER && current.written == (current.number < REFUSALS ? 0 : current.number);
+    if (current.kind == WRITER)
+        return current.written == (current.number < REFUSALS ? 0 : current.number);
+    return current.kind == READINGS && current.number < NUMBERS && current.room % WORD == 0 &&
+           current.written == (current.number == 0 ? current.readings_len / READING * ANSWER : 0);
 }
 
 // Reads the next case; 0 after the last.
@@ -91,40 +104,54 @@ static int read_case(void)
         return 0;
     }
     current.input_len = read_word();
+    current.readings_len = read_word();
     current.room = read_word();
     current.number = read_word();
     current.written = read_word();
     if (!is_case())
         broken_input("no case");
-    if (current.kind == KEY)
-        read_bytes(current.input, current.input_len);
-    else
+    if (current.kind == WRITER)
         read_words(current.input, current.input_len);
-    read_bytes(current.output, current.written);
+    else
+        read_bytes(current.input, current.input_len);
+    read_words(current.readings, current.readings_len);
+    if (current.kind == READINGS)
+        read_words(current.output, current.written);
+    else
+        read_bytes(current.output, current.written);
     case_number++;
     return 1;
 }
 
-static _Noreturn void differ(const char *what, uint64_t at, uint64_t expected, uint64_t got)
+static void print_bytes(const uint8_t *bytes, uint64_t count)
 {
-    const char *input = current.kind == KEY ? "job" : "description";
-    printf("case %llu, a %s, differs: %s", (unsigned long long)case_number, input, what);
-    if (at != UINT64_MAX)
-        printf(" %llu", (unsigned long long)at);
-    printf(": expected %llu, got %llu\n", (unsigned long long)expected, (unsigned long long)got);
-    printf("expected number %llu, %llu bytes written; room %llu, %s of %llu bytes:\n",
-           (unsigned long long)current.number, (unsigned long long)current.written,
-           (unsigned long long)current.room, input, (unsigned long long)current.input_len);
-    for (uint64_t i = 0; i < current.input_len; i++)
-        printf("%02x", current.input[i]);
+    for (uint64_t i = 0; i < count; i++)
+        printf("%02x", bytes[i]);
     printf("\n");
+}
+
+static _Noreturn void differ(const char *what, const char *name, uint64_t at, uint64_t expected, uint64_t got)
+{
+    static const char *const kinds[] = {"end", "job", "description", "job with readings"};
+    printf("case %llu, a %s, differs: %s %s", (unsigned long long)case_number, kinds[current.kind], what, name);
+    if (at != UINT64_MAX)
+        printf(", byte %llu", (unsigned long long)at);
+    printf(": expected %llu, got %llu\n", (unsigned long long)expected, (unsigned long long)got);
+    printf("expected number %llu, %llu bytes written; room %llu, input of %llu bytes:\n",
+           (unsigned long long)current.number, (unsigned long long)current.written,
+           (unsigned long long)current.room, (unsigned long long)current.input_len);
+    print_bytes(current.input, current.input_len);
+    if (current.kind == READINGS) {
+        printf("readings of %llu words:\n", (unsigned long long)(current.readings_len / WORD));
+        print_bytes(current.readings, current.readings_len);
+    }
     exit(1);
 }
 
 static void on_fault(int signal_number)
 {
     if (calling)
-        differ("memory outside the buffers was touched, signal", UINT64_MAX, 0, (uint64_t)signal_number);
+        differ("memory was touched outside", "the buffers", UINT64_MAX, 0, (uint64_t)signal_number);
     _exit(2);
 }
 
@@ -152,53 +179,109 @@ static void set_guard(uint8_t *start, uint64_t count)
         start[i] = guard_byte(i);
 }
 
-static void check_guard(const uint8_t *start, uint64_t count, const char *what)
+// A part of so many bytes with so many guard bytes behind it, all of which fill the end of an area.
+static struct part new_part(const char *name, struct area area, uint64_t len, uint64_t behind)
+{
+    struct part part = {name, area.end - behind - len, len, behind};
+    set_guard(part.bytes - GUARD, GUARD);
+    set_guard(part.bytes + len, behind);
+    return part;
+}
+
+static struct part new_input(const char *name, struct area area, const uint8_t *bytes, uint64_t len, uint64_t behind)
+{
+    struct part part = new_part(name, area, len, behind);
+    memcpy(part.bytes, bytes, len);
+    return part;
+}
+
+static void check_guard(const uint8_t *start, uint64_t count, const char *what, const char *name)
 {
     for (uint64_t i = 0; i < count; i++)
         if (start[i] != guard_byte(i))
-            differ(what, i, guard_byte(i), start[i]);
+            differ(what, name, i, guard_byte(i), start[i]);
 }
 
-// Calls the function of the current case's kind; the words of a description stand where words may stand.
-static uint64_t call(const uint8_t *input, uint8_t *output)
+static void check_guards(struct part part)
+{
+    check_guard(part.bytes - GUARD, GUARD, "before", part.name);
+    check_guard(part.bytes + part.len, part.behind, "behind", part.name);
+}
+
+static void check_input(struct part part, const uint8_t *bytes)
+{
+    for (uint64_t i = 0; i < part.len; i++)
+        if (part.bytes[i] != bytes[i])
+            differ("in", part.name, i, bytes[i], part.bytes[i]);
+    check_guards(part);
+}
+
+static void check_output(struct part part, uint8_t filler)
+{
+    for (uint64_t i = 0; i < current.written; i++)
+        if (part.bytes[i] != current.output[i])
+            differ("in", part.name, i, current.output[i], part.bytes[i]);
+    for (uint64_t i = current.written; i < part.len; i++)
+        if (part.bytes[i] != filler)
+            differ("in the buffer past", part.name, i, filler, part.bytes[i]);
+    check_guards(part);
+}
+
+// Calls the function of the current case's kind; words stand where words may stand.
+static uint64_t call(const uint8_t *input, const void *readings, void *output)
 {
     if (current.kind == KEY)
         return consolidation_key(input, current.input_len, output, current.room);
-    return consolidation_job((const uint64_t *)(const void *)input, current.input_len / WORD, output, current.room);
+    if (current.kind == WRITER)
+        return consolidation_job((const uint64_t *)(const void *)input, current.input_len / WORD, output, current.room);
+    return consolidation_readings(input, current.input_len, readings, current.readings_len / WORD, output,
+                                  current.room / WORD);
 }
 
-// Works the current case with so many guard bytes behind input and output; those behind the input are whole words.
-static void work(struct area inputs, struct area outputs, uint64_t behind_input, uint64_t behind, uint8_t filler)
+// Guard bytes behind what is handed over: more from case to case, and whole words where words stand.
+static uint64_t shifted(int words)
 {
-    uint8_t *input = inputs.end - behind_input - current.input_len;
-    uint8_t *output = outputs.end - behind - current.room;
-    set_guard(input - GUARD, GUARD);
-    memcpy(input, current.input, current.input_len);
-    set_guard(inputs.end - behind_input, behind_input);
-    set_guard(output - GUARD, GUARD);
-    memset(output, filler, current.room);
-    set_guard(outputs.end - behind, behind);
+    uint64_t shift = case_number % 8;
+    return GUARD + (words ? WORD * shift : shift);
+}
+
+// Works the current case, the output filled with a byte: between guard bytes, or at the end of the areas.
+static void work(const struct area areas[3], int between, uint8_t filler)
+{
+    uint64_t behind_input = between ? shifted(current.kind == WRITER) : 0, behind_readings = between ? shifted(1) : 0;
+    uint64_t behind_output = between ? shifted(current.kind == READINGS) : 0;
+    struct part input = new_input("the input", areas[0], current.input, current.input_len, behind_input);
+    struct part readings = new_input("the readings", areas[1], current.readings, current.readings_len, behind_readings);
+    struct part output = new_part("the output", areas[2], current.room, behind_output);
+    memset(output.bytes, filler, output.len);
 
     calling = 1;
-    uint64_t number = call(input, output);
+    uint64_t number = call(input.bytes, readings.bytes, output.bytes);
     calling = 0;
 
     if (number != current.number)
-        differ("number", UINT64_MAX, current.number, number);
-    for (uint64_t i = 0; i < current.written; i++)
-        if (output[i] != current.output[i])
-            differ("output byte", i, current.output[i], output[i]);
-    for (uint64_t i = current.written; i < current.room; i++)
-        if (output[i] != filler)
-            differ(current.written == 0 ? "byte of a refused case's buffer" : "byte past the output", i, filler,
-                   output[i]);
-    for (uint64_t i = 0; i < current.input_len; i++)
-        if (input[i] != current.input[i])
-            differ("input byte", i, current.input[i], input[i]);
-    check_guard(input - GUARD, GUARD, "before the input, byte");
-    check_guard(inputs.end - behind_input, behind_input, "behind the input, byte");
-    check_guard(output - GUARD, GUARD, "before the output buffer, byte");
-    check_guard(outputs.end - behind, behind, "behind the output buffer, byte");
+        differ("number", "returned", UINT64_MAX, current.number, number);
+    check_output(output, filler);
+    check_input(input, current.input);
+    check_input(readings, current.readings);
+}
+
+static uint64_t word_at(const uint8_t *bytes)
+{
+    uint64_t word;
+    memcpy(&word, bytes, WORD);
+    return word;
+}
+
+static void count_readings(struct tally *tally)
+{
+    tally->lists++;
+    tally->list_numbers[current.number]++;
+    for (uint64_t at = 0; at < current.written; at += ANSWER) {
+        tally->readings++;
+        tally->reading_numbers[word_at(current.output + at) % READING_NUMBERS]++;
+        tally->missing += word_at(current.output + at + WORD);
+    }
 }
 
 static void count(struct tally *tally)
@@ -206,6 +289,10 @@ static void count(struct tally *tally)
     if (current.kind == WRITER) {
         tally->descriptions++;
         tally->answers[current.number < REFUSALS ? current.number : 0]++;
+        return;
+    }
+    if (current.kind == READINGS) {
+        count_readings(tally);
         return;
     }
     tally->jobs++;
@@ -225,26 +312,36 @@ static void print_counts(const uint64_t *counts, int first, int end, int all)
         }
 }
 
+static void print_tally(const struct tally *tally)
+{
+    printf("%llu jobs agree: accepted %llu; refused", (unsigned long long)tally->jobs,
+           (unsigned long long)tally->numbers[0]);
+    print_counts(tally->numbers, 1, NUMBERS, 1);
+    printf("; stops");
+    print_counts(tally->stops, 0, STOPS, 1);
+    printf("; %llu descriptions agree: written %llu; refused", (unsigned long long)tally->descriptions,
+           (unsigned long long)tally->answers[0]);
+    print_counts(tally->answers, 1, REFUSALS, 0);
+    printf("; %llu lists of readings agree: answered %llu; refused", (unsigned long long)tally->lists,
+           (unsigned long long)tally->list_numbers[0]);
+    print_counts(tally->list_numbers, 1, NUMBERS, 1);
+    printf("; %llu readings: compared %llu, missing %llu; refused", (unsigned long long)tally->readings,
+           (unsigned long long)(tally->reading_numbers[0] - tally->missing), (unsigned long long)tally->missing);
+    print_counts(tally->reading_numbers, 1, READING_NUMBERS, 0);
+    printf("\n");
+}
+
 int main(void)
 {
     struct tally tally = {0};
-    struct area inputs = new_area(), outputs = new_area();
+    const struct area areas[3] = {new_area(), new_area(), new_area()};
     signal(SIGSEGV, on_fault);
     signal(SIGBUS, on_fault);
     while (read_case()) {
-        uint64_t shift = case_number % 8;
-        work(inputs, outputs, GUARD + (current.kind == KEY ? shift : WORD * shift), GUARD + shift, 165);
-        work(inputs, outputs, 0, 0, 90);
+        work(areas, 1, 165);
+        work(areas, 0, 90);
         count(&tally);
     }
-    printf("%llu jobs agree: accepted %llu; refused", (unsigned long long)tally.jobs,
-           (unsigned long long)tally.numbers[0]);
-    print_counts(tally.numbers, 1, NUMBERS, 1);
-    printf("; stops");
-    print_counts(tally.stops, 0, STOPS, 1);
-    printf("; %llu descriptions agree: written %llu; refused", (unsigned long long)tally.descriptions,
-           (unsigned long long)tally.answers[0]);
-    print_counts(tally.answers, 1, REFUSALS, 0);
-    printf("\n");
+    print_tally(&tally);
     return 0;
 }

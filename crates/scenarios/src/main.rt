@@ -1,5 +1,5 @@
-// Answers lists of calls, works jobs and writes those of descriptions, all from files, and writes every answer, state, result and job, for
-// comparison with another program's.
+// Answers lists of calls and readings, works jobs and writes those of descriptions, all from files, and writes every answer, state, result
+// and job, for comparison with another program's.
 mod print;
 
 ghost use lib.ListN.{length as ListN·length};
@@ -77,7 +77,7 @@ fn answer_list(number: u64, kind: u64, body: &[u8], calls: &[u64]) -> bool
     false
 }
 
-// Reads so many calls through a buffer of bytes, and stores their words at the start of another.
+// Reads so many calls or readings through a buffer of bytes, and stores their words at the start of another.
 fn read_calls(fd: i32, count: usize, bytes: &mut [u8], words: &mut [u64])
     requires { ⌜ (24 * count ≤ ListN·length (now bytes)) × (3 * count ≤ ListN·length (now words)) ⌝ }
     ensures { λ _. ⌜ now (words .exit) ≡ filled (now (words .entry)) (3 * count) (column 8 0 (now (bytes .exit))) ⌝ }
@@ -137,14 +137,53 @@ fn answer_description(body: &[u8], room: usize) -> bool
     true
 }
 
+// Compares a reading of three words with a record, and writes the numbers of the answer.
+fn answer_reading(record: Record, element: u64, kind: u64, word: u64) {
+    let reading = field_data::reading_of(kind, word);
+    let numbers = record_reading::numbers_of(record_reading::compare(record, element, reading));
+    write_number(numbers.refusal);
+    write_number(numbers.missing);
+    write_number(numbers.exact);
+    write_number(numbers.pore);
+    write_number(numbers.difference);
+}
+
+// Compares readings with a record, one after the other.
+fn answer_readings(record: Record, words: &[u64])
+    requires { ⌜ ListN·length (now words) ≤ 192 ⌝ }
+{
+    let mut end: usize = 3;
+    while end <= words.len() {
+        answer_reading(record, words[end - 3], words[end - 2], words[end - 1]);
+        end += 3;
+    }
+}
+
+// Reads the readings of a record, and answers them; false where there are too many, or the body is no record.
+fn read_readings(fd: i32, body: &[u8], count: usize) -> bool {
+    if count > 64 {
+        return false;
+    }
+    if !input::is_record(body) {
+        return false;
+    }
+    let mut bytes = [0u8; 1_536];
+    let mut words = [0u64; 192];
+    read_calls(fd, count, &mut bytes, &mut words);
+    let end = 3 * count;
+    answer_readings(input::record(body), &words[..end]);
+    true
+}
+
 // Answers a block whose body is read; false where it is not of the right form. Its kind: 0 a list on a job, 2 a job for the key, 3 a
-// description for its job, any other a list on a record.
+// description for its job, 4 readings of a record, any other a list on a record.
 fn answer_block(fd: i32, number: u64, kind: u64, body: &[u8], count: usize) -> bool
     requires { ⌜ ListN·length (now body) ≤ 8_192 ⌝ }
 {
     match kind {
         2 => answer_key(body, count),
         3 => answer_description(body, count),
+        4 => read_readings(fd, body, count),
         _ => read_list(fd, number, kind, body, count),
     }
 }
