@@ -23,6 +23,7 @@ TESTS: Dict[str, List[str]] = {
     "scenarios": ["tests/run_files"],
     "consolidate": ["tests/run_program"],
     "compose": ["tests/run_texts"],
+    "piezometer": ["tests/run_readings"],
 }
 
 

@@ -30,6 +30,8 @@ REFUSALS = {
     9: "an element has no start on the compressibility curve",
     10: "the buffer is shorter than the result",
     17: "the buffer is shorter than the job",
+    18: "the reading is not finite, or above 2,000 kPa or 200 m in size",
+    19: "the layer has no such element: they are 1 to N",
 }
 
 
@@ -113,6 +115,9 @@ def read_answer(answer: bytes) -> Union[Key, Refusal]:
 def printed(lines: List[str], verb: str) -> int:
     """Write lines on standard output: 0, or 2 where that cannot be written. A reader that has gone away is no fault, and
     letters that the output does not know are written as codes."""
+    if sys.stdout is None:
+        print("%s: there is no standard output" % verb, file=sys.stderr)
+        return 2
     encoding = sys.stdout.encoding or "utf-8"
     try:
         print("\n".join(lines).encode(encoding, "backslashreplace").decode(encoding), flush=True)

@@ -1,3 +1,4 @@
--- Fields past the last byte, and what one number tells.
+-- Fields past the last byte, words as bytes, and what one number tells.
 pub mod CutFields
 pub mod OneNumber
+pub mod WordBytes

@@ -1,11 +1,12 @@
 -- A description by its words, numbers of 64 bits: those of the header, then each array at its place. A word past the last is 0.
 use Prim.Native.Nat.{ℕ, _+_, _≤_}
 use lib.ListN.{length, take, getD}
-use mathlib.Core.List.{List}
+use mathlib.Core.List.{List, map}
 use mathlib.Core.Path.{_≡_}
 use Rattle.description.specs.Lent.{descriptionOf}
 use Rattle.numbers.specs.Arrays.{overlaid, tabulate}
-use Rattle.numbers.specs.Bytes.{AreBytes, column}
+use Rattle.numbers.specs.Bytes.{AreBytes, bytes, column}
+use Rattle.numbers.specs.Lists.{appended}
 use Rattle.rules.specs.Job.{Description, described, headerLength}
 use Rattle.rules.specs.Opening.{opening}
 use Rattle.rules.specs.Result.{Returned}
@@ -47,6 +48,11 @@ wordsLength = 652
 unfoldable pub wordsIn : (count : ℕ) (bytes : List ℕ) → List ℕ
 unfolding tabulate column
 wordsIn count bytes = tabulate count (column 8 0 bytes)
+
+-- the bytes of words, eight each, lowest first
+unfoldable pub bytesOf : (words : List ℕ) → List ℕ
+unfolding appended bytes
+bytesOf words = appended (map (bytes 8) words)
 
 -- so many words from a place on
 unfoldable pub placesFrom : (at size : ℕ) (words : List ℕ) → List ℕ

@@ -1,8 +1,10 @@
-// Words of bytes, eight each, lowest first. Bytes past the last count as 0.
+// Words as bytes, eight each, lowest first. Where words are read, bytes past the last count as 0.
 ghost use lib.ListN.{length};
 ghost use mathlib.Core.Path.{_≡_};
+ghost use Prim.Native.Nat.{_*_, _≤_};
+ghost use Rattle.numbers.specs.Arrays.{overlaid};
 ghost use Rattle.numbers.specs.Bytes.{field};
-ghost use Rattle.words.specs.Words.{wordsIn};
+ghost use Rattle.words.specs.Words.{wordsIn, bytesOf};
 
 // The word at an offset.
 pub fn word_at(bytes: &[u8], offset: usize) -> u64
@@ -25,6 +27,18 @@ pub fn read_words(bytes: &[u8], words: &mut [u64])
     let mut i: usize = 0;
     while i < words.len() {
         words[i] = word_at(bytes, 8 * i);
+        i += 1;
+    }
+}
+
+// Stores all words of an array, one after the other, at the start of a buffer.
+pub fn put_words(words: &[u64], out: &mut [u8])
+    requires { ⌜ 8 * length (now words) ≤ length (now out) ⌝ }
+    ensures { λ _. ⌜ now (out .exit) ≡ overlaid (bytesOf (now (words .entry))) (now (out .entry)) ⌝ }
+{
+    let mut i: usize = 0;
+    while i < words.len() {
+        encoding::put_word(out, 8 * i, words[i]);
         i += 1;
     }
 }

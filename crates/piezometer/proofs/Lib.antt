@@ -1,0 +1,2 @@
+-- The proofs of `piezometer`.
+pub mod Answering

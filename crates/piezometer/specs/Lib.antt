@@ -1,0 +1,2 @@
+-- What the contracts of piezometer cite beside the rules.
+pub mod FieldOutput
