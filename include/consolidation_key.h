@@ -287,8 +287,8 @@ uint64_t consolidation_job(const uint64_t *description, size_t words, uint8_t *j
  * the cause, and all of `answers` is as it was: 1 to 9, by the tests that `consolidation_key` makes, and last 10. No
  * other number is returned.
  *
- * Memory, state and threads are as for the key; it uses less than 40 KiB of stack. It takes the time of the key,
- * and for each reading a time in proportion to N.
+ * Memory, state and threads are as for the key; it uses less than 24 KiB of stack. It takes the time of the key,
+ * and for each reading the same time whatever N is.
  *
  * Example, of one reading of 12.5 kPa in the second element:
  *

@@ -3,4 +3,5 @@ pub mod KeyLaws
 pub mod Layers
 pub mod ReadingLaws
 pub mod SameKey
+pub mod ToldLaws
 pub mod Specimen

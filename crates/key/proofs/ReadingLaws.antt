@@ -2,36 +2,34 @@
 use Prim.Native.Nat.{ℕ, _*_, _/_, _≤_, _<_}
 use native.Mathlib.Decide.{decLe}
 use native.Mathlib.Omega.{arith}
-use borrow.Author.Tests.{lt-ltb, le-ltb}
-use lib.Dec.{ltb}
+use borrow.Author.Tests.{lt-ltb, le-ltb, ltb-true, ltb-false}
+use lib.Dec.{ltb, lit≤}
 use lib.ListN.{length}
-use mathlib.Core.Bool.{Bool, true, false}
+use mathlib.Core.Bool.{Bool, true, false, cond}
 use mathlib.Core.List.{List}
 use mathlib.Core.Logic.{⊎-elim}
 use mathlib.Core.Option.{none, some}
 use mathlib.Core.Path.{_≡_, refl, ap, _∙_}
 use Rattle.answers.proofs.Causes.{cause-numbered}
-use Rattle.claims.proofs.Opened.{opening-either, opened}
+use Rattle.claims.proofs.Opened.{opening-either}
 use Rattle.field_data.specs.Words.{readingCount, answersOn}
-use Rattle.job.proofs.FramingLaws.{long, none-framed, tests}
-use Rattle.key.proofs.KeyLaws.{opening-numbered}
+use Rattle.key.proofs.KeyLaws.{opening-numbered, opened-layer, key-refused, key-run}
+use Rattle.key.proofs.KeyLaws.{no-room as key-no-room, room-enough as key-room-enough}
 use Rattle.key.specs.Readings.{runToReadings, jobReadings}
+use Rattle.lent.proofs.Standing.{counted}
 use Rattle.numbers.specs.Arrays.{overlaid}
-use Rattle.quantities.proofs.Limits.{inside}
-use Rattle.quantities.specs.Quantities.{clockLimits, budgetLimits}
-use Rattle.rules.specs.Calls.{called, endedRun}
-use Rattle.rules.specs.Job.{described, headerLength}
+use Rattle.rules.specs.Calls.{endedRun}
+use Rattle.rules.specs.Job.{described}
+use Rattle.rules.specs.Key.{key}
 use Rattle.rules.specs.Opening.{opening, refusedOpening}
-use Rattle.rules.specs.Outcome.{answerNumber, refusalOf}
-use Rattle.rules.specs.Record.{isLayer}
-use Rattle.rules.specs.Result.{Returned, refusedResult}
+use Rattle.rules.specs.Outcome.{refusalOf}
+use Rattle.rules.specs.Refusals.{refusalNumber}
+use Rattle.rules.specs.Result.{Returned, refusedResult, resultSize, resultMost}
 use Rattle.rules.specs.declared.answers.Answer.{Answer}
 use Rattle.rules.specs.declared.answers.Answer.the-variants.{Done, Refused}
 use Rattle.rules.specs.declared.answers.Answered.{Answered}
-use Rattle.rules.specs.declared.answers.Call.the-variants.{Run}
 use Rattle.rules.specs.declared.answers.Refusal.the-variants.{ShortBuffer}
 use Rattle.rules.specs.declared.record.Record.{Record}
-use Rattle.run.proofs.RunLaws.{run-within}
 
 -- ---- the room for the answers
 
@@ -61,19 +59,6 @@ module _ (job readings buffer : List ℕ) where
   unfolding jobReadings
   by-answer answer e = ap (λ (a : Answer). elim (refusalOf a) as (λ _. Returned) [ some cause ↦ refusedResult cause buffer | none ↦ run ]) e
 
-  -- a number other than 0 is a refusal's
-  pub not-opened : (answerNumber ((opening job) .answer) ≡ 0 → ⊥) →
-      (answerNumber ((opening job) .answer) ≤ 19) ×
-      (jobReadings job readings buffer ≡ record { number = answerNumber ((opening job) .answer); buffer = buffer })
-  unfolding answerNumber refusalOf refusedResult refusedOpening
-  not-opened other =
-      ⊎-elim
-      (λ (cause, is).
-      let e = ap (λ (a : Answered). a .answer) is in
-      (rw e (cause-numbered cause .1), by-answer (Refused cause) e ∙ rw e refl))
-      (λ done. absurd (other (rw done refl)))
-      (opening-either job)
-
   pub readings-run : (opening job) .answer ≡ Done → jobReadings job readings buffer ≡ run
   unfolding refusalOf
   readings-run done = by-answer Done done
@@ -97,28 +82,72 @@ readings-numbers job readings buffer =
     rw (readings-run job readings buffer done) most)
     (opening-numbered job)
 
--- the number 0 is that of a job that opening is done with
-pub is-opened : (job : List ℕ) → answerNumber ((opening job) .answer) ≡ 0 → (opening job) .answer ≡ Done
-unfolding answerNumber refusedOpening
-is-opened job zero =
-    ⊎-elim
-    (λ (cause, is).
-    let numbered = cause-numbered cause .0 in
-    let e = rw (ap (λ (a : Answered). a .answer) is) at zero in
-    absurd (omega arith))
-    (λ done. done)
-    (opening-either job)
+-- ---- by what the key returns for the same job
 
--- a run within its limits leaves the record that the key's result is of
-pub ran-after : (r : Record) (end budget : ℕ) → isLayer r ≡ true →
-    (r .layer .progress .clock .0 ≤ end) × (end ≤ clockLimits .most) × (budget ≤ budgetLimits .most) →
-    (a : Answered) → a ≡ called r (Run end budget) → a .after ≡ (endedRun r end budget) .after
-ran-after r end budget is (early, late, few) a e =
-    ap (λ (x : Answered). x .after)
-    (e ∙
-    run-within r end budget is (le-ltb end (r .layer .progress .clock .0) early) (inside clockLimits end (omega arith) late)
-    (inside budgetLimits budget (omega arith) few) refl)
+module _ (job readings answers result : List ℕ) where
+  abbrev short : Bool
+  short = ltb (length answers / 5) (readingCount readings)
 
--- a job that opening accepts has a header
-pub opened-header-there : (job : List ℕ) → (opening job) .answer ≡ Done → headerLength ≤ length job
-opened-header-there job done = long job (tests job _ (none-framed job (opened job done .no-cause)) .0)
+  abbrev end : ℕ
+  end = (described job) .header .end
+
+  abbrev budget : ℕ
+  budget = (described job) .header .budget
+
+  abbrev first : Record
+  first = (opening job) .after
+
+  -- what both return, where the key has room for its result just where the answers have room for theirs
+  pub record Alike : Type 0 where
+    -- a number other than 0 is that of the refusal
+    pub refused-alike : ((key job result) .number ≡ 0 → ⊥) →
+        jobReadings job readings answers ≡ record { number = (key job result) .number; buffer = answers }
+    -- with 0 the job is opened, its result stored, and the answers have room
+    pub is-done : (key job result) .number ≡ 0 → (opening job) .answer ≡ Done
+    pub has-room : (key job result) .number ≡ 0 → readingCount readings ≤ length answers / 5
+    pub result-there : (key job result) .number ≡ 0 → resultSize (first .layer .frame .elements) ≤ length result
+
+  opened-alike : (opening job) .answer ≡ Done → (z : Bool) → short ≡ z → length result ≡ cond z 0 resultMost → Alike
+  unfolding refusedResult resultSize refusalNumber
+  opened-alike done true e long =
+      let k = key-run job done result ∙ key-no-room first end budget result (omega arith) .0 in
+      let r = readings-run job readings answers done ∙ no-room first end budget readings answers (ltb-true (length answers / 5) (readingCount readings) e) in
+      let ten : (key job result) .number ≡ 10 = ap (λ (x : Returned). x .number) k in record {
+        refused-alike = λ _. r ∙ rw k refl;
+        is-done = λ z. done;
+        has-room = λ z. absurd (omega arith);
+        result-there = λ z. absurd (omega arith);
+      }
+  opened-alike done false e long =
+      let few = counted first (opened-layer job done) .1 in
+      let enough : resultSize (first .layer .frame .elements) ≤ length result = omega arith in
+      let k = key-run job done result ∙ key-room-enough first end budget result enough .0 in
+      let zero : (key job result) .number ≡ 0 = ap (λ (x : Returned). x .number) k in record {
+        refused-alike = λ other. absurd (other zero);
+        is-done = λ z. done;
+        has-room = λ z. ltb-false (length answers / 5) (readingCount readings) e;
+        result-there = λ z. enough;
+      }
+
+  pub alike : length result ≡ cond short 0 resultMost → Alike
+  unfolding refusedResult refusedOpening refusalOf
+  alike long =
+      ⊎-elim
+      (λ (cause, is).
+      let e = ap (λ (a : Answered). a .answer) is in
+      let k = key-refused job result cause e in
+      let number : (key job result) .number ≡ refusalNumber cause = ap (λ (x : Returned). x .number) k in
+      let some = cause-numbered cause .0 in record {
+        refused-alike = λ _. by-answer job readings answers (Refused cause) e ∙ rw k refl;
+        is-done = λ z. absurd (omega arith);
+        has-room = λ z. absurd (omega arith);
+        result-there = λ z. absurd (omega arith);
+      })
+      (λ done. opened-alike done short refl long)
+      (opening-either job)
+
+-- no result needs more room than the longest
+pub room-most : (z : Bool) → cond z 0 resultMost ≤ 5_176
+unfolding resultSize
+room-most true = lit≤ tt
+room-most false = lit≤ tt

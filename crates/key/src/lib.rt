@@ -16,7 +16,7 @@ use rules::job::Header;
 use rules::record::Frame;
 use rules::record::Progress;
 
-pub mod readings;
+pub mod job_readings;
 pub mod written_job;
 
 // Runs a layer that is lent by its parts with its burdens to its header's end within its budget, and writes its result. Where that

@@ -40,7 +40,7 @@ fn answer_words(job: &[u8], readings: &[u64], answers: &mut [u64], out: &mut [u8
     ensures { λ r. ⌜ (now (out .exit) ≡ overlaid (wordsOutput (now (job .entry)) (now (readings .entry)) (now (answers .entry))) (now (out .entry))) × (r ≡ length (wordsOutput (now (job .entry)) (now (readings .entry)) (now (answers .entry)))) ⌝ }
     ensures { λ _. ⌜ now (answers .exit) ≡ (jobReadings (now (job .entry)) (now (readings .entry)) (now (answers .entry))) .buffer ⌝ }
 {
-    let number = key::readings::consolidation_readings(job, readings, answers);
+    let number = key::job_readings::consolidation_readings(job, readings, answers);
     if number != 0 {
         return answers::refused_line(number, out);
     }

@@ -121,4 +121,4 @@ module _ (n : ℕ) where
 -- the pressure of a head between two levels is in range
 pub pressure-within : {h : ℤ} → Within h (levelLimits .most) → Within ((pressureOf (head h)) .0) mostHeadPressure
 unfolding pressureOf
-pressure-within w = within-cut (lit< tt) (within-mul w (within-pos 981))
+pressure-within {h} w = within-cut (lit< tt) (within-mul w (within-pos 981))

@@ -2,6 +2,7 @@ use Prim.Native.Nat.{_*_}
 use lib.Seq.{sets}
 use mathlib.Core.Path.{ap, _∙_}
 use Rattle.field_data.proofs.WordLaws.{answer-made}
+use Rattle.field_data.specs.Words.{comparedIn}
 use borrow.Author.Needs.{needs}
 use Rattle.field_data.proofs.answer_reading.Statement.{statement}
 use Rattle.field_data.proofs.answer_reading.Tie as tie
@@ -30,14 +31,14 @@ shared-slice-read-reading-of-2 c = search needs
 reading-of-requires : tie.Need-reading-of-requires
 reading-of-requires c κs = search needs
 
-mul-compare-layer : tie.Need-mul-compare-layer
-mul-compare-layer c = search needs
+mul-compare-in : tie.Need-mul-compare-in
+mul-compare-in c = search needs
 
-shared-slice-read-compare-layer : tie.Need-shared-slice-read-compare-layer
-shared-slice-read-compare-layer c = search needs
+shared-slice-read-compare-in : tie.Need-shared-slice-read-compare-in
+shared-slice-read-compare-in c = search needs
 
-compare-layer-requires : tie.Need-compare-layer-requires
-compare-layer-requires c κs = search needs
+compare-in-requires : tie.Need-compare-in-requires
+compare-in-requires c κs = search needs
 
 numbers-of-requires : tie.Need-numbers-of-requires
 numbers-of-requires c κs = search needs
@@ -57,10 +58,10 @@ returns c =
     let n = p .before .before in
     let k = n .before in
     let a = k .before .before in
-    let s = c .before .before .before .before .before .before .before .before .before .before .before .before in
+    let s = c .before .before .before .before .before .before .before .before .before .before .before .before .before in
     p .put-numbers .ensures ∙
     ap (sets (s .args .answers .now) (5 * s .args .i))
-    (answer-made (s .args .r) (s .args .readings .now) (s .args .i) (a .reading-of .ensures) (k .compare-layer .ensures) (n .numbers-of .ensures))
+    (answer-made (comparedIn (s .args .result .now)) (s .args .readings .now) (s .args .i) (a .reading-of .ensures) (k .compare-in .ensures) (n .numbers-of .ensures))
 
 pub answer-reading-spec : {M : Type 1} → statement M
 answer-reading-spec =
@@ -74,9 +75,9 @@ answer-reading-spec =
     mul-reading-of-2
     shared-slice-read-reading-of-2
     reading-of-requires
-    mul-compare-layer
-    shared-slice-read-compare-layer
-    compare-layer-requires
+    mul-compare-in
+    shared-slice-read-compare-in
+    compare-in-requires
     numbers-of-requires
     mul-put-numbers
     put-numbers-requires
