@@ -7,7 +7,8 @@
 #include <string.h>
 
 enum { HEADER_BYTES = 48, VERSION = 1 };
-enum { WATER_GIVEN = 0, AT_REST = 1 };   /* starts */
+enum { WATER_GIVEN = 0, AT_REST = 1, STEADY = 2 };   /* starts */
+enum { STEADY_SECONDS = 1000, STEADY_SPREAD = 1 };
 
 #define MOST_STRESS UINT64_C(2000000000)
 #define MOST_VOID UINT64_C(1000000000)
@@ -60,7 +61,7 @@ static bool header_sound(const uint8_t *bytes)
 {
     return bytes[5] <= DRAINED && bytes[6] <= DRAINED && within(bytes[7], 1, MOST_ELEMENTS) &&
            within(bytes[8], 2, MOST_POINTS) && within(bytes[9], 2, MOST_POINTS) &&
-           within(bytes[10], 1, MOST_POINTS) && bytes[11] <= AT_REST &&
+           within(bytes[10], 1, MOST_POINTS) && bytes[11] <= STEADY &&
            within(get16(bytes + 12), 1000, 5000) && get16(bytes + 14) == 0;
 }
 
@@ -168,6 +169,37 @@ static bool start(struct layer *layer, bool at_rest)
     return true;
 }
 
+/* Start 1 is for a closed bottom, or one at the top's level. */
+static bool may_rest(const struct layer *layer)
+{
+    return layer->bottom == CLOSED || layer->bottom_level == layer->top_level;
+}
+
+/* Whether the upward flows through any two faces differ by at most STEADY_SPREAD; a closed face has none. */
+static bool steady(const struct layer *layer)
+{
+    int64_t burden[MOST_ELEMENTS], below = layer->bottom_pressure, below_half = 0, least = 0, most = 0;
+    burdens(layer, burden);
+    for (uint64_t j = 0; j <= layer->count; j++) {
+        int64_t excess = 0, half = 0, flow = 0;
+        if (j < layer->count) {
+            uint64_t e = void_ratio(layer->solids[j], layer->water[j]);
+            uint64_t height = layer->solids[j] + layer->water[j];
+            excess = layer->load + burden[j] - (int64_t)effective_stress(layer, e);
+            half = (int64_t)ceil_div(4905 * height, hydraulic_conductivity(layer, e));
+        }
+        if ((j > 0 || layer->bottom == DRAINED) && (j < layer->count || layer->top == DRAINED))
+            flow = (below - excess) * STEADY_SECONDS / (below_half + half);
+        if (j == 0 || flow < least)
+            least = flow;
+        if (j == 0 || flow > most)
+            most = flow;
+        below = excess;
+        below_half = half;
+    }
+    return most - least <= STEADY_SPREAD;
+}
+
 enum refusal open_job(const uint8_t *bytes, size_t length, struct job *job)
 {
     if (length < HEADER_BYTES || memcmp(bytes, "LSC", 3) != 0)
@@ -188,8 +220,10 @@ enum refusal open_job(const uint8_t *bytes, size_t length, struct job *job)
         return UNSOUND_CONDUCTIVITY;
     if (!table_sound(&job->layer))
         return UNSOUND_TABLE;
-    if (!start(&job->layer, at_rest))
+    if ((at_rest && !may_rest(&job->layer)) || !start(&job->layer, at_rest))
         return START_OFF_CURVE;
+    if (bytes[11] == STEADY && !steady(&job->layer))
+        return NOT_STEADY;
     return ACCEPTED;
 }
 

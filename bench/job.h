@@ -20,7 +20,8 @@ enum refusal {
     UNSOUND_CONDUCTIVITY,
     UNSOUND_TABLE,
     START_OFF_CURVE,
-    RESULT_TOO_SHORT
+    RESULT_TOO_SHORT,
+    NOT_STEADY = 20
 };
 
 /* A job opened: the layer as it starts, and the run asked for. */

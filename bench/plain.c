@@ -11,15 +11,6 @@ static bool on_curve(const struct layer *layer, uint64_t j, int64_t water)
     return e <= layer->void_ratio[0] && e >= layer->void_ratio[layer->m - 1];
 }
 
-static uint64_t hydraulic_conductivity(const struct layer *layer, uint64_t e)
-{
-    const uint64_t *v = layer->conductivity_void, *k = layer->conductivity;
-    uint64_t i = 0;
-    while (e > v[i + 1])
-        i++;
-    return k[i] + (k[i + 1] - k[i]) * (e - v[i]) / (v[i + 1] - v[i]);
-}
-
 /* Faces 0 to count: face j is below element j. */
 struct outcome run_plain(struct layer *layer, uint64_t end, uint64_t budget)
 {

@@ -41,6 +41,16 @@ static inline uint64_t effective_stress(const struct layer *layer, uint64_t e)
     return s[i] + (s[i + 1] - s[i]) * (v[i] - e) / (v[i] - v[i + 1]);
 }
 
+/* Conductivity at a void ratio on the curve. */
+static inline uint64_t hydraulic_conductivity(const struct layer *layer, uint64_t e)
+{
+    const uint64_t *v = layer->conductivity_void, *k = layer->conductivity;
+    uint64_t i = 0;
+    while (e > v[i + 1])
+        i++;
+    return k[i] + (k[i + 1] - k[i]) * (e - v[i]) / (v[i + 1] - v[i]);
+}
+
 /* Stress of the buoyant solids above the middle of each element. */
 static inline void burdens(const struct layer *layer, int64_t *burden)
 {

@@ -20,6 +20,7 @@ sys.path.insert(0, os.path.join(os.path.dirname(HERE), "reference"))
 import make_scenarios  # noqa: E402
 import makers  # noqa: E402
 import rules  # noqa: E402
+import steady_jobs  # noqa: E402
 
 KERNELS = ("plain", "tuned")
 SOURCES = KERNELS + ("job", "key")
@@ -29,6 +30,7 @@ ROOM_AFTER = 24                 # bytes past a result, which a key has to leave
 ELEMENT_STEPS = 1_500
 MADE_JOBS = 2_000
 OWN_JOBS = 1_200
+STEADY_JOBS = 500
 WHOLE_JOBS = 20
 
 
@@ -157,6 +159,10 @@ def jobs():
     for opening in make_scenarios.openings():
         yield makers.affordable_job(opening.body)
     yield from makers.make_inputs("jobs", 20, MADE_JOBS)
+    for kind in steady_jobs.made_kinds().values():
+        for _, job in kind:
+            yield makers.affordable_job(rules.job_bytes(job))
+    yield from steady_jobs.make_steady(20, STEADY_JOBS)
     for number in range(OWN_JOBS):
         yield own_job(random.Random(number))
 
@@ -186,8 +192,8 @@ def main():
         stops[stop] += 1
         seen.update({"steps": steps, "with two points of load or more": record.table_count > 1,
                      "whose load changed": load != record.load, "whose water flowed out or in": any(outflows),
-                     "at rest at the start": job[11], "of 1 element": record.elements == 1,
-                     "of 128 elements": record.elements == 128,
+                     "at rest at the start": job[11] == 1, "steady at the start": job[11] == 2,
+                     "of 1 element": record.elements == 1, "of 128 elements": record.elements == 128,
                      "with a 64-point curve": 64 in (record.curve1_count, record.curve2_count),
                      "with an artesian bottom": (record.bottom or 0) > 0})
     print("%d jobs compared, %d steps; both keys and the job writer agree with the reference"

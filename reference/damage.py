@@ -43,7 +43,8 @@ def damage_version(chance: Chance, job: Job) -> bytes:
 
 
 def damage_header(chance: Chance, job: Job) -> bytes:
-    """Cause 3: a header byte outside its values."""
+    """Cause 3: a header byte outside its values; a start of 2 was outside before note 3, and is still drawn, so that the
+    stored jobs keep their bytes."""
     offset, values = chance.pick([(5, [2, 255]), (6, [2, 128]), (7, [0, 129, 255]), (8, [0, 1, 65, 255]),
                                   (9, [0, 1, 65, 255]), (10, [0, 65, 255]), (11, [2, 255]), (13, [0, 3, 20, 255]),
                                   (14, [1, 128]), (15, [1, 128])])

@@ -2,11 +2,13 @@
 
 from __future__ import annotations
 
+from dataclasses import replace
 from typing import Callable, Iterator, List, Tuple
 
 import damage
 import makers
 import rules
+import steady_jobs
 from chance import TOP_BIT, Chance
 from make_descriptions import Vector, cut_body, needed
 from make_scenarios import words
@@ -111,13 +113,33 @@ def rooms(chance: Chance) -> Iterator[Vector]:
 
 def random_words(chance: Chance) -> Iterator[Vector]:
     """Any words, with and without a right header and right solids."""
-    right = [1, 1, 1, 2, 2, 1, chance.between(0, 1), 2_650, 0, 0, 0, 0, 1_000_000]
+    right = [1, 1, 1, 2, 2, 1, chance.between(0, 2), 2_650, 0, 0, 0, 0, 1_000_000]
     for head in ([], right[:8], right[:12], right):
         for most in (1, 10**3, 10**9, U64_MAX):
             numbers = head + [chance.scaled(0, most) for _ in range(chance.between(0, 40))]
             yield Vector(words(numbers), chance.between(0, 200))
 
 
+def steady(chance: Chance) -> Iterator[Vector]:
+    """Descriptions in start 2 that are steady or nearly so, with other starts and heights, damaged, and short rooms."""
+    for _ in range(3):
+        job = steady_jobs.drawn_steady(chance)
+        description = rules.job_description(job)
+        yield Vector(listed(chance, description), near_enough(chance, description))
+    for start in (0, 1, 3, 2**8 + 2, 2**32 + 2, U64_MAX, chance.draw()):
+        yield Vector(cut_body(replace(description, start=start).words()), near_enough(chance, description))
+    for more in (1, -1, 2, -9):
+        other = rules.job_description(steady_jobs.changed_water(job, chance.between(0, len(job.elements) - 1), more))
+        yield Vector(cut_body(other.words()), needed(other))
+    yield Vector(cut_body(rules.job_description(makers.emptied(job)).words()), needed(description))
+    damaged_one = chance.pick(damage.DESCRIPTION_DAMAGES)(chance, rules.read_job(rules.job_bytes(job)))
+    yield Vector(listed(chance, damaged_one), near_enough(chance, damaged_one))
+    filled = damage.with_places_past_counts(chance, description)
+    yield Vector(listed(chance, filled), near_enough(chance, description))
+    yield Vector(cut_body(description.words()), chance.between(0, needed(description) - 1))
+
+
 # Families in the order of the stream, with their shares of the count in hundredths; sound ones make up the rest.
 FAMILIES: List[Tuple[int, Callable[[Chance], Iterator[Vector]]]] = [
-    (8, lengths), (18, headers), (18, places), (10, rooms), (5, random_words), (22, damaged)]
+    (8, lengths), (18, headers), (18, places), (10, rooms), (5, random_words), (22, damaged),
+    (10, steady)]

@@ -32,6 +32,7 @@ import makers  # noqa: E402
 import piezometer  # noqa: E402
 import reading_cases as readings  # noqa: E402
 import rules  # noqa: E402
+import steady_jobs  # noqa: E402
 from chance import Chance  # noqa: E402
 from make_scenarios import words  # noqa: E402
 from make_vectors import Vector, needed  # noqa: E402
@@ -115,7 +116,7 @@ def headers(chance: Chance) -> Iterator[Vector]:
     job = small_job(chance)
     for offset in range(rules.JOB_HEADER):
         old = job[offset]
-        values = {0, 1, 2, 64, 65, 128, 129, 255, old ^ 1, old ^ 128, (old + 1) % 256, (old - 1) % 256}
+        values = {0, 1, 2, 3, 64, 65, 128, 129, 255, old ^ 1, old ^ 128, (old + 1) % 256, (old - 1) % 256}
         for value in sorted(values - {old}):
             changed = makers.affordable_job(damage.changed(job, offset, bytes([value])))
             yield Vector(changed, needed(job))
@@ -144,7 +145,7 @@ def random_bytes(chance: Chance) -> Iterator[Vector]:
     def some(count: int) -> bytes:
         return b"".join(bytes([chance.draw() & 255]) for _ in range(count))
 
-    right = b"LSC" + struct.pack("<H7BH", 1, 1, 1, 1, 2, 2, 1, chance.between(0, 1), 2_650) + b"\0\0"
+    right = b"LSC" + struct.pack("<H7BH", 1, 1, 1, 1, 2, 2, 1, chance.between(0, 2), 2_650) + b"\0\0"
     for head in (b"", b"LSC", b"LSC\1\0", right[:12]):
         yield Vector(head + some(chance.between(0, 200)), chance.between(0, 200))
     body = b"".join(words([chance.scaled(0, chance.pick([10**3, 10**9, rules.U64_MAX]))]) for _ in range(16))
@@ -152,9 +153,28 @@ def random_bytes(chance: Chance) -> Iterator[Vector]:
     yield Vector(job, needed(job))
 
 
+def steady(chance: Chance) -> Iterator[Vector]:
+    """Jobs in start 2 that are steady or nearly so, and one of them damaged and with another start, height and room."""
+    for _ in range(3):
+        job = steady_jobs.drawn_steady(chance)
+        data = makers.affordable_job(rules.job_bytes(job))
+        yield Vector(data, near_enough(chance, data))
+    others = [steady_jobs.changed_water(job, chance.between(0, len(job.elements) - 1), more) for more in (1, -1, 2, -9)]
+    for other in map(rules.job_bytes, others):
+        yield Vector(makers.affordable_job(other), needed(other))
+    for start in (0, 1, 3):
+        other = makers.affordable_job(damage.changed(data, 11, bytes([start])))
+        yield Vector(other, near_enough(chance, other))
+    resting = rules.job_bytes(makers.emptied(job))
+    yield Vector(makers.affordable_job(resting), needed(resting))
+    other = makers.affordable_job(chance.pick(damage.DAMAGES)(chance, rules.read_job(rules.job_bytes(job))))
+    yield Vector(other, near_enough(chance, other))
+    yield Vector(data, chance.between(0, needed(data) - 1))
+
+
 # Families in the order of the stream, with their shares of the count in hundredths; sound jobs make up the rest.
 FAMILIES: List[Tuple[int, Callable[[Chance], Iterator[Vector]]]] = [
-    (6, truncations), (16, headers), (10, rooms), (4, random_bytes), (26, damaged)]
+    (6, truncations), (16, headers), (10, rooms), (4, random_bytes), (26, damaged), (12, steady)]
 LONG_RUNS = 1_000  # one longer run in so many cases
 FIRST_DESCRIPTION = 2**31  # number of the group before the first of descriptions
 FIRST_READINGS = 3 * 2**30  # number of the group before the first of readings

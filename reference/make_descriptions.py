@@ -39,8 +39,10 @@ import make_vectors as vectors  # noqa: E402
 import makers  # noqa: E402
 import printing  # noqa: E402
 import rules  # noqa: E402
+import steady_jobs  # noqa: E402
 from chance import TOP_BIT, Chance  # noqa: E402
-from make_scenarios import DESCRIPTION, U64_MAX, mud, note, resting, specimen, widest, with_side, words  # noqa: E402
+from make_scenarios import DESCRIPTION, U64_MAX, level_cause, mud, note, resting, specimen  # noqa: E402
+from make_scenarios import widest, with_side, words  # noqa: E402
 from make_vectors import FILLER, MANY, MOST_BYTES  # noqa: E402
 from rules import DESCRIPTION_WORDS, HEADER_WORDS, Description, Job  # noqa: E402
 
@@ -48,7 +50,7 @@ SEED = 50_000
 DRAWN = 65   # drawn vectors, sound and damaged
 AGAIN = 35   # drawn jobs that are read and written again
 WRITTEN = 0  # stands for an answer that is a length
-ANSWERS = (WRITTEN, 3, 5, 6, 7, 8, 9, 17)
+ANSWERS = (WRITTEN, 3, 5, 6, 7, 8, 9, 17, 20)
 ENDS = {5: 268, 6: 396, 7: 524, 8: 652, 9: 652}  # the words that causes up to this one look at
 
 
@@ -94,7 +96,7 @@ class Worked:
         self.description = rules.description_of(body_words(vector.body))
         self.buffer = bytearray([FILLER]) * vector.room
         self.number = rules.write_job(self.description, self.buffer)
-        self.job: Optional[bytes] = bytes(self.buffer[:self.number]) if self.number > rules.SHORT_JOB_BUFFER else None
+        self.job: Optional[bytes] = bytes(self.buffer[:self.number]) if self.number >= rules.SHORTEST_JOB else None
         self.answer = self.number if self.job is None else WRITTEN
         if self.job is not None:
             self.read_back(self.job)
@@ -142,7 +144,7 @@ def great_limit_job() -> Job:
 
 
 def written() -> Iterator[Tuple[int, Vector]]:
-    """Jobs at the limits, all of which are written, with none or a few bytes to spare."""
+    """Jobs at the limits with none or a few bytes to spare; all are written that start 1 does not refuse for levels."""
     jobs = list(scenarios.accepted_edges()) + list(vectors.limit_jobs())
     jobs = [replace(job, table=[(0, 0)]) if job.table == specimen().table and job.start == 0 else job for job in jobs]
     jobs += [specimen(), least(), limit_job(), great_limit_job(), resting(limit_job(table=[(0, 1_000_000_000)]))]
@@ -150,9 +152,9 @@ def written() -> Iterator[Tuple[int, Vector]]:
         job = light(top=top, bottom=bottom, table=[(0, 9_000_000 * start)])
         jobs.append(resting(job) if start else job)
     for number, job in enumerate(jobs):
-        vector = fitting_job(job, (0, 0, 3, 16)[number % 4])
-        assert Worked(vector).job == rules.job_bytes(job)
-        yield WRITTEN, vector
+        vector, cause = fitting_job(job, (0, 0, 3, 16)[number % 4]), level_cause(job)
+        assert Worked(vector).job == (None if cause else rules.job_bytes(job))
+        yield cause or WRITTEN, vector
 
 
 # Numbers at a limit in `limit_job`: cause when past it, list, place, side, and what is added to go past it.
@@ -211,6 +213,7 @@ def short_limits() -> Iterator[Tuple[int, Vector]]:
 # ----------------------------------------------------------------------------------------------------------------
 
 FLAG = (0, 1)
+START = (0, 2)
 STATED = {"top": FLAG, "bottom": FLAG, "elements": rules.ELEMENTS, "curve1_count": rules.CURVE_POINTS,
           "curve2_count": rules.CURVE_POINTS, "table_count": rules.TABLE_POINTS, "start": FLAG,
           "gravity": rules.GRAVITY}
@@ -228,11 +231,12 @@ def headers() -> Iterator[Tuple[int, Vector]]:
     """Every number of the header in turn: alone, where no solids are refused next, and before a whole layer."""
     whole = rules.job_description(light())
     for name, limits in STATED.items():
+        stated = START if name == "start" else limits
         for number in header_numbers(getattr(whole, name), limits):
             alone = replace(whole, **{name: number}).words()[:HEADER_WORDS]
-            yield 5 if rules.within(number, limits) else 3, Vector(cut_body(alone), number % 20)
+            yield 5 if rules.within(number, stated) else 3, Vector(cut_body(alone), number % 20)
         for number in (limits[1] + 1, getattr(whole, name) + 2**16):
-            yield 3, fitting(replace(whole, **{name: number}))
+            yield 20 if (name, number) == ("start", 2) else 3, fitting(replace(whole, **{name: number}))
     for name, number, cause in (("elements", 3, 5), ("elements", 128, 5), ("curve1_count", 3, 6),
                                 ("curve1_count", 64, 6), ("curve2_count", 3, 7), ("curve2_count", 64, 7),
                                 ("table_count", 2, 8), ("table_count", 64, 8), ("elements", 1, WRITTEN)):
@@ -268,14 +272,16 @@ def several_causes() -> Iterator[Tuple[int, Vector]]:
     job = light(bottom=1, bottom_level=10_000_000)
     enough = needed(rules.job_description(job))
     faults = {cause: ways for cause, ways in scenarios.FAULTS.items() if cause >= 5}
-    faults[3] = [lambda job: replace(job, gravity=999), lambda job: replace(job, start=2)]
+    faults[3] = [lambda job: replace(job, gravity=999), scenarios.not_steady]
     for first, second in itertools.combinations(sorted(faults), 2):
         for spoil, spoil_next in zip(faults[first], faults[second]):
             numbers = rules.job_description(spoil_next(spoil(job))).words()
-            yield first, Vector(cut_body(numbers), (enough, enough - 1, 0)[(first + second) % 3])
+            cause = second if spoil is scenarios.not_steady else first
+            yield cause, Vector(cut_body(numbers), (enough, enough - 1, 0)[(first + second) % 3])
     for cause, ways in sorted(faults.items()):
         for room in (0, enough - 1):
-            yield cause, fitting_job(ways[room % 2](job))._replace(room=room)
+            spoil = ways[room % 2]
+            yield 20 if spoil is scenarios.not_steady else cause, fitting_job(spoil(job))._replace(room=room)
     # all faults at once, then without the first, the first two, and so on
     for first in sorted(faults):
         spoiled = job
@@ -300,7 +306,7 @@ def rooms() -> Iterator[Tuple[int, Vector]]:
             yield WRITTEN if room >= enough else 17, vector
     for job in (mud(), resting(mud()), light(start=1, elements=[(1_000_000, 0)], table=[(0, 9_000_000)])):
         for more, answer in ((-1, 17), (0, WRITTEN)):
-            yield answer, fitting_job(job, more)
+            yield level_cause(job) or answer, fitting_job(job, more)
 
 
 def word_lists() -> Iterator[Vector]:
@@ -340,7 +346,7 @@ def filled(description: Description, even: int) -> Description:
 def places_past_counts() -> Iterator[Tuple[int, Vector]]:
     """Numbers in the places past the counts, which are neither looked at nor written."""
     for job in (light(), least(), mud(), resting(mud()), vectors.long_mud()):
-        yield WRITTEN, fitting(filled(rules.job_description(job), 0), 20)
+        yield level_cause(job) or WRITTEN, fitting(filled(rules.job_description(job), 0), 20)
     yield 17, fitting(filled(rules.job_description(mud()), 1), -1)
     for cause in (5, 6, 7, 8, 9):
         yield cause, fitting(filled(rules.job_description(scenarios.FAULTS[cause][0](mud())), cause % 2))
@@ -352,6 +358,32 @@ def places_past_counts() -> Iterator[Tuple[int, Vector]]:
                     {"curve2_count": 2, "table_count": 1}):
         yield WRITTEN, fitting(replace(longer, **changes))
     yield 7, fitting(longer)
+
+
+# ----------------------------------------------------------------------------------------------------------------
+# Steady layers
+# ----------------------------------------------------------------------------------------------------------------
+
+NO_STARTS = (3, 4, 255, 256, 257, 258, 2**16 + 2, 2**32, 2**32 + 1, 2**32 + 2, TOP_BIT + 2, U64_MAX - 1, U64_MAX)
+
+
+def steady() -> Iterator[Tuple[int, Vector]]:
+    """A quarter of the jobs of each kind of note 3, some with buffers that would not do as well, which is the last
+    cause; numbers that are no start, in a steady layer and alone; places past the counts."""
+    for jobs in steady_jobs.made_kinds().values():
+        described = [(cause, job) for cause, job in jobs if cause not in (1, 2) and job.spare == bytes(2)]
+        quarter = [pair for number, pair in enumerate(described) if (number + number // 4) % 4 == 0]
+        for number, (cause, job) in enumerate(quarter):
+            vector = fitting_job(job)
+            yield cause or WRITTEN, vector._replace(room=vector.room + (0, 0, 9)[number % 3])
+            if number % 3 == 0:
+                yield cause or 17, vector._replace(room=(vector.room - 1, 0)[number % 2])
+    steady_job, uneven_job = [steady_jobs.made_kinds()[kind][0][1] for kind in ("equal_flows", "flows_by_2")]
+    for number, start in enumerate(NO_STARTS):
+        numbers = replace(rules.job_description(steady_job), start=start).words()
+        yield 3, Vector(cut_body(numbers if number % 3 == 0 else numbers[:HEADER_WORDS]), 200)
+    yield WRITTEN, fitting(filled(rules.job_description(steady_job), 1))
+    yield 20, fitting(filled(rules.job_description(uneven_job), 0))
 
 
 # ----------------------------------------------------------------------------------------------------------------
@@ -375,13 +407,14 @@ def drawn_vector(index: int) -> Vector:
 
 
 def drawn_again(index: int) -> Vector:
-    """The description that a drawn job is read as, which has to be written as that job."""
+    """The description that a drawn job is read as, which has to be written as that job unless start 1 is refused for
+    its levels."""
     chance = Chance(SEED, DRAWN + index)
     while True:
         job = scenarios.drawn_job(chance, 10)
-        if rules.open_job(job)[0] == rules.ACCEPTED:
+        if makers.open_at_any_level(job)[0] == rules.ACCEPTED:
             vector = fitting(rules.read_description(job), chance.pick([0, 0, 1, 24]))
-            assert Worked(vector).job == job
+            assert Worked(vector).job == (None if level_cause(rules.read_job(job)) else job)
             return vector
 
 
@@ -402,7 +435,9 @@ KINDS: Dict[str, Callable[[Worked], bool]] = {
     "fewer words than all": lambda w: len(w.body) < 8 * DESCRIPTION_WORDS,
     "just all words": lambda w: len(w.body) == 8 * DESCRIPTION_WORDS,
     "more words than all": lambda w: len(w.body) > 8 * DESCRIPTION_WORDS,
-    "a word that is not whole": lambda w: len(w.body) % 8 > 0}
+    "a word that is not whole": lambda w: len(w.body) % 8 > 0,
+    "one steady element": lambda w: (w.description.start, w.description.elements) == (2, 1),
+    "128 steady elements": lambda w: (w.description.start, w.description.elements) == (2, 128)}
 
 
 def of_faces(top: int, bottom: int, start: int) -> Callable[[Worked], bool]:
@@ -411,7 +446,7 @@ def of_faces(top: int, bottom: int, start: int) -> Callable[[Worked], bool]:
 
 
 KINDS.update(("top %d, bottom %d, start %d" % faces, of_faces(*faces))
-             for faces in itertools.product(FLAG, repeat=3))
+             for faces in itertools.product(FLAG, FLAG, rules.STARTS))
 
 
 class Counts:
@@ -458,7 +493,7 @@ def all_vectors() -> Dict[str, List[Vector]]:
             "job_causes": expected(several_causes()), "job_rooms": expected(rooms()),
             "job_words": list(word_lists()), "job_places": expected(places_past_counts()),
             "job_drawn": [drawn_vector(index) for index in range(DRAWN)],
-            "job_again": [drawn_again(index) for index in range(AGAIN)]}
+            "job_again": [drawn_again(index) for index in range(AGAIN)], "job_steady": expected(steady())}
 
 
 def vector_bytes(vector: Vector) -> bytes:

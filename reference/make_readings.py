@@ -173,7 +173,7 @@ def sized_layers() -> List[Record]:
 
 def after(item: scenarios.CallList) -> Record:
     """The record that a list leaves."""
-    _, record = rules.open_job(item.body)
+    _, record = makers.open_at_any_level(item.body)
     for name, a, b in item.calls:
         lists.answer_call(record, name, [a, b] if name == "run" else [a])
     return record
@@ -394,7 +394,7 @@ def drawn_block(index: int) -> Block:
     chance = Chance(SEED, 10_000 + index)
     record = Record()
     while not rules.is_layer(record):
-        record = rules.open_job(scenarios.drawn_job(chance, 30))[1]
+        record = makers.open_at_any_level(scenarios.drawn_job(chance, 30))[1]
     if chance.one_in(4):
         makers.age_record(chance, record)
     scenarios.drawn_calls(chance, record, chance.between(0, 6), True)

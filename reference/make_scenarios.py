@@ -47,9 +47,11 @@ import damage  # noqa: E402
 import lists  # noqa: E402
 import makers  # noqa: E402
 import rules  # noqa: E402
+import steady_lists  # noqa: E402
 from chance import I64_MAX, I64_MIN, TOP_BIT, Chance  # noqa: E402
+from sample_jobs import FAULTS, mud, not_steady, resting, specimen, widest, with_side  # noqa: E402
 
-LISTS = 2_400   # at least so many lists
+LISTS = 2_400   # at least so many lists, beside those of steady layers
 RUNS = True     # whether runs are among the calls
 SEED = 20_000
 CRATE = os.path.join(os.path.dirname(HERE), "crates", "scenarios")
@@ -233,58 +235,6 @@ class Answers:
 # Jobs
 # ----------------------------------------------------------------------------------------------------------------
 
-def specimen(**changes) -> rules.Job:
-    """The paper's specimen, with changes."""
-    return replace(rules.Job(
-        top=1, gravity=1_000, top_level=10_000_000, end=100, budget=1, elements=[(1_000_000, 2_000_000)] * 2,
-        curve1=[(5_000_000, 200_000_000), (105_000_000, 100_000_000)],
-        curve2=[(100_000_000, 100_000), (200_000_000, 200_000)], table=[(0, 15_000_000)]), **changes)
-
-
-def mud(**changes) -> rules.Job:
-    """Three unlike elements with weight between drained faces, artesian, under a load that rises and falls."""
-    return replace(rules.Job(
-        top=1, bottom=1, gravity=2_650, top_level=10_000_000, bottom_level=12_000_000, end=9_000, budget=50,
-        elements=[(1_000_000, 2_000_000), (2_000_000, 4_400_000), (500_000, 1_200_000)],
-        curve1=[(1_000_000, 300_000_000), (20_000_000, 180_000_000), (200_000_000, 90_000_000)],
-        curve2=[(80_000_000, 2_000), (150_000_000, 9_000), (320_000_000, 60_000)],
-        table=[(0, 5_000_000), (1_000, 40_000_000), (5_000, 10_000_000)]), **changes)
-
-
-def resting(job: rules.Job, **changes) -> rules.Job:
-    """A job in start 1, with changes."""
-    job = replace(job, **changes)
-    return replace(job, start=1, elements=[(solids, 0) for solids, _ in job.elements])
-
-
-def widest(**changes) -> rules.Job:
-    """All counts and all limits at their greatest; the lowest 64 elements stand at the curve's dry end."""
-    voids = [1_000_000_000 - 15_873_015 * i for i in range(63)] + [1]
-    stresses = [31_746_031 * i for i in range(63)] + [2_000_000_000]
-    conductivities = [1] + [15_873_015 * i for i in range(1, 63)] + [1_000_000_000]
-    times = [47_619_047 * i for i in range(63)] + [3_000_000_000]
-    loads = [1_000_000_000 if i % 2 else 31_746_031 * i for i in range(63)] + [2_000_000_000]
-    return replace(rules.Job(
-        top=1, bottom=1, gravity=5_000, top_level=200_000_000_000, bottom_level=200_000_000_000, end=3_000_000_000,
-        budget=1_000_000, elements=[(100_000_000, 1)] * 64 + [(100_000_000, 1_000_000_000)] * 64,
-        curve1=list(zip(stresses, voids)), curve2=list(zip(reversed(voids), conductivities)),
-        table=list(zip(times, loads))), **changes)
-
-
-def with_pair(job: rules.Job, name: str, place: int, pair: Pair) -> rules.Job:
-    """A job with one of its pairs replaced."""
-    pairs = list(getattr(job, name))
-    pairs[place] = pair
-    return replace(job, **{name: pairs})
-
-
-def with_side(job: rules.Job, name: str, place: int, side: int, number: int) -> rules.Job:
-    """A job with one number of one of its pairs replaced."""
-    pair = list(getattr(job, name)[place])
-    pair[side] = number
-    return with_pair(job, name, place, (pair[0], pair[1]))
-
-
 def above(limits: Pair) -> List[int]:
     """Numbers above a range."""
     return [limits[1] + 1, TOP_BIT, U64_MAX]
@@ -313,7 +263,7 @@ def other_versions(job: rules.Job) -> Iterator[bytes]:
 
 
 def headers_outside(job: rules.Job) -> Iterator[bytes]:
-    """Cause 3, with the length that the counts ask for, and without."""
+    """Cause 3, with the length that the counts ask for, and without; among them start 2, which note 3 took from it."""
     for changes in ({"top": 2}, {"top": 255}, {"bottom": 2}, {"bottom": 255}, {"start": 2}, {"start": 255},
                     {"gravity": 0}, {"gravity": 999}, {"gravity": 5_001}, {"gravity": 65_535},
                     {"spare": b"\1\0"}, {"spare": b"\0\1"}, {"spare": b"\x80\x80"},
@@ -411,23 +361,14 @@ def starts_off_curve(job: rules.Job) -> Iterator[bytes]:
                                       curve2=[(1, 1), (1_000_000_000, 1)], table=[(0, 499)]))
 
 
+def made_cause(cause: int, data: bytes) -> int:
+    """The cause of a job of `CAUSES`: among the headers is start 2, whose layers are not steady."""
+    return rules.NOT_STEADY if cause == rules.BAD_HEADER and data[11] == rules.STEADY else cause
+
+
 CAUSES: Dict[int, Callable[[rules.Job], Iterator[bytes]]] = {
     1: unmarked, 2: other_versions, 3: headers_outside, 4: wrong_lengths, 5: fields_outside, 6: first_curves,
     7: second_curves, 8: load_tables, 9: starts_off_curve}
-
-# Faults that leave room for a second one.
-FAULTS: Dict[int, List[Callable[[rules.Job], rules.Job]]] = {
-    1: [lambda job: replace(job, mark=b"LSD")],
-    2: [lambda job: replace(job, version=2), lambda job: replace(job, version=0)],
-    3: [lambda job: replace(job, spare=b"\0\1"), lambda job: replace(job, gravity=999),
-        lambda job: replace(job, start=2)],
-    4: [lambda job: job],
-    5: [lambda job: replace(job, top_level=rules.LEVEL[1] + 1), lambda job: replace(job, budget=rules.BUDGET[1] + 1)],
-    6: [lambda job: with_side(job, "curve1", 0, 0, U64_MAX), lambda job: with_side(job, "curve1", -1, 1, 0)],
-    7: [lambda job: with_side(job, "curve2", 0, 1, 0), lambda job: with_side(job, "curve2", -1, 0, U64_MAX)],
-    8: [lambda job: with_side(job, "table", 0, 0, 1), lambda job: with_side(job, "table", -1, 1, TOP_BIT)],
-    9: [lambda job: with_side(job, "elements", 0, 1, 0), lambda job: with_side(job, "elements", -1, 1, 1_000_000_000)]}
-
 
 def two_causes(job: rules.Job) -> Iterator[Tuple[int, bytes]]:
     """Jobs with two causes at once, and the one that is tested first."""
@@ -436,11 +377,17 @@ def two_causes(job: rules.Job) -> Iterator[Tuple[int, bytes]]:
             if first < second:
                 for number, spoil in enumerate(firsts):
                     spoiled = seconds[number % len(seconds)](spoil(job))
-                    yield first, rules.job_bytes(spoiled) + bytes(8 if 4 in (first, second) else 0)
+                    cause = second if spoil is not_steady else first
+                    yield cause, rules.job_bytes(spoiled) + bytes(8 if 4 in (first, second) else 0)
+
+
+def level_cause(job: rules.Job) -> int:
+    """9 for a job in start 1 whose bottom is drained at another level than the top's, else 0."""
+    return 9 if (job.start, job.bottom) == (1, 1) and job.bottom_level != job.top_level else 0
 
 
 def accepted_edges() -> Iterator[rules.Job]:
-    """Jobs at the limits that are still accepted."""
+    """Jobs at the limits that are still accepted, and mud in start 1, which is not for its levels."""
     yield from (specimen(), mud(), widest(), resting(specimen()), resting(mud()))
     for changes in ({"top_level": 0}, {"top_level": 200_000_000_000}, {"end": 0}, {"end": 3_000_000_000},
                     {"budget": 0}, {"budget": 1_000_000}, {"gravity": 5_000}, {"top": 0},
@@ -478,11 +425,11 @@ def openings() -> Iterator[CallList]:
         return CallList(JOB, data, calls)
 
     for job in accepted_edges():
-        yield opening(rules.job_bytes(job), 0)
+        yield opening(rules.job_bytes(job), level_cause(job))
     for cause, ways in CAUSES.items():
         for job in (specimen(), mud()):
             for data in ways(job):
-                yield opening(data, cause)
+                yield opening(data, made_cause(cause, data))
     for job in (specimen(), mud()):
         for cause, data in two_causes(job):
             yield opening(data, cause)
@@ -493,8 +440,8 @@ def openings() -> Iterator[CallList]:
 # ----------------------------------------------------------------------------------------------------------------
 
 def opened(job: rules.Job) -> rules.Record:
-    """The record of an accepted job."""
-    refusal, record = rules.open_job(rules.job_bytes(job))
+    """The record of an accepted job, or of one that start 1 alone would refuse for its levels."""
+    refusal, record = makers.open_at_any_level(rules.job_bytes(job))
     assert refusal == 0, refusal
     return record
 
@@ -850,12 +797,12 @@ def drawn_job(chance: Chance, damaged_one_in: int) -> bytes:
 def drawn_list(chance: Chance, runs: bool) -> CallList:
     """A list from a job."""
     job = drawn_job(chance, 10)
-    return CallList(JOB, job, drawn_calls(chance, rules.open_job(job)[1], chance.between(1, 10), runs))
+    return CallList(JOB, job, drawn_calls(chance, makers.open_at_any_level(job)[1], chance.between(1, 10), runs))
 
 
 def drawn_record(chance: Chance, runs: bool) -> CallList:
     """A list from a record, which is a layer or no layer."""
-    refusal, record = rules.open_job(drawn_job(chance, 30))
+    refusal, record = makers.open_at_any_level(drawn_job(chance, 30))
     if refusal == 0:
         if chance.one_in(2):
             makers.age_record(chance, record)
@@ -879,6 +826,8 @@ def all_lists(least: int, runs: bool) -> Dict[str, List[CallList]]:
     chances = [Chance(SEED, index) for index in range(left)]
     files["drawn_jobs"] = [drawn_list(chance, runs) for chance in chances[:left * 2 // 3]]
     files["drawn_records"] = [drawn_record(chance, runs) for chance in chances[left * 2 // 3:]]
+    files["steady_lists"] = [from_job(job, [call for call in calls if runs or call[0] != "run"])
+                             for job, calls in steady_lists.made_lists()]
     return files
 
 
@@ -893,7 +842,7 @@ def made_files(least: int, runs: bool) -> Tuple[Dict[str, bytes], Answers]:
             lines += answers.lines(number, item)
     made["args"] = "".join(name[5:] + "\n" for name in made).encode("ascii")
     made["stdout"] = ("\n".join(lines) + "\n").encode("ascii")
-    wanted = set(range(10)) | set(range(11, 17 if runs else 16))
+    wanted = set(range(10)) | {rules.NOT_STEADY} | set(range(11, 17 if runs else 16))
     assert set(answers.refusals) == wanted and set(answers.stops) == (set(range(4)) if runs else set())
     assert answers.lists >= least
     return made, answers

@@ -34,14 +34,17 @@ import make_scenarios as scenarios  # noqa: E402
 import makers  # noqa: E402
 import printing  # noqa: E402
 import rules  # noqa: E402
+import steady_jobs  # noqa: E402
 from chance import Chance  # noqa: E402
 from make_scenarios import KEY, mud, note, resting, specimen, widest, with_side, words  # noqa: E402
 
 SEED = 30_000
 DRAWN = 420         # drawn vectors
+DRAWN_STEADY = 120  # drawn vectors in start 2
 FILLER = 165        # every byte of a result buffer before the call
 MOST_BYTES = 8_192  # of a job, and of a result buffer
 MANY = 20           # at least so many vectors of every refusal number and every stop
+REFUSALS = tuple(range(11)) + (rules.NOT_STEADY,)
 
 
 class Vector(NamedTuple):
@@ -119,7 +122,7 @@ def limit_jobs() -> Iterator[rules.Job]:
 
 
 def run_jobs() -> Iterator[rules.Job]:
-    """Runs to every stop, in both starts, through every pair of faces."""
+    """Runs to every stop, in the starts 0 and 1, through every pair of faces."""
     for top, bottom in ((0, 0), (0, 1), (1, 0), (1, 1)):
         for level in (0, 10_000_000, 60_000_000)[:1 + 2 * bottom]:
             faces = {"top": top, "bottom": bottom, "bottom_level": level}
@@ -177,7 +180,8 @@ def refused() -> Iterator[Tuple[int, Vector]]:
         for job in (specimen(), mud()):
             for data in ways(job):
                 enough = min(needed(data), 176)
-                yield cause, Vector(data, (enough, enough + 5, enough - 1, 0, enough, 1)[number % 6])
+                room = (enough, enough + 5, enough - 1, 0, enough, 1)[number % 6]
+                yield scenarios.made_cause(cause, data), Vector(data, room)
                 number += 1
 
 
@@ -208,7 +212,7 @@ def several_causes() -> Iterator[Tuple[int, Vector]]:
             for fault in faults:
                 data = rules.job_bytes(fault(job)) + bytes(8 if cause == 4 else 0)
                 for room in (0, 56, enough - 1, enough):
-                    yield cause, Vector(data, room)
+                    yield scenarios.made_cause(cause, data), Vector(data, room)
         # all faults at once, then without the first, the first two, and so on
         for first in range(1, 11):
             spoiled = job
@@ -262,6 +266,33 @@ def drawn_vector(index: int) -> Vector:
 
 
 # ----------------------------------------------------------------------------------------------------------------
+# Steady layers
+# ----------------------------------------------------------------------------------------------------------------
+
+def steady() -> Iterator[Tuple[int, Vector]]:
+    """The jobs of note 3, some of each kind with buffers that would not do as well, which is the last cause."""
+    for jobs in steady_jobs.made_kinds().values():
+        for number, (cause, job) in enumerate(jobs):
+            data = makers.affordable_job(rules.job_bytes(job))
+            enough = needed(data)
+            yield cause, Vector(data, enough + (0, 0, 7)[number % 3])
+            if number % 5 in (0, 3):
+                yield cause or rules.SHORT_BUFFER, Vector(data, (enough - 1, 0)[number % 2])
+
+
+def drawn_steady(index: int) -> Vector:
+    """A job in start 2, steady or nearly so, once in five damaged, and a buffer."""
+    chance = Chance(SEED, 10_000 + index)
+    while True:
+        job = steady_jobs.drawn_steady(chance)
+        if len(job.elements) <= 12 or chance.one_in(6):
+            break
+    damaged = chance.one_in(5)
+    data = makers.affordable_job(chance.pick(damage.DAMAGES)(chance, job) if damaged else rules.job_bytes(job))
+    return Vector(data[:MOST_BYTES], drawn_room(chance, data))
+
+
+# ----------------------------------------------------------------------------------------------------------------
 # The files
 # ----------------------------------------------------------------------------------------------------------------
 
@@ -285,6 +316,8 @@ KINDS: Dict[str, Callable[[Worked], bool]] = {
     "a load that falls": lambda w: w.load < w.parts.table[0][1],
     "a load that rises": lambda w: w.load > w.parts.table[0][1],
     "a thousand steps": lambda w: w.steps >= 1_000,
+    "one steady element": lambda w: w.parts.start == rules.STEADY and len(w.parts.elements) == 1,
+    "128 steady elements": lambda w: w.parts.start == rules.STEADY and len(w.parts.elements) == 128,
     "room to spare": lambda w: w.room > needed(w.job)}
 
 
@@ -294,7 +327,7 @@ def of_faces(top: int, bottom: int, start: int) -> Callable[[Worked], bool]:
 
 
 KINDS.update(("top %d, bottom %d, start %d" % faces, of_faces(*faces))
-             for faces in itertools.product((0, 1), repeat=3))
+             for faces in itertools.product((0, 1), (0, 1), rules.STARTS))
 
 
 class Counts:
@@ -315,7 +348,7 @@ class Counts:
 
     def missing(self) -> List[str]:
         """What there is too little of."""
-        return (["refusal %d" % number for number in range(11) if self.refusals.get(number, 0) < MANY]
+        return (["refusal %d" % number for number in REFUSALS if self.refusals.get(number, 0) < MANY]
                 + ["stop %d" % number for number in range(4) if self.stops.get(number, 0) < MANY]
                 + [name for name, count in self.kinds.items() if count == 0])
 
@@ -341,7 +374,9 @@ def all_vectors() -> Dict[str, List[Vector]]:
     """The vectors of every file, in the order of the files."""
     return {"key_accepted": list(accepted()), "key_refused": expected(refused()), "key_points": expected(long_points()),
             "key_causes": expected(several_causes()), "key_headers": list(header_bytes()), "key_rooms": list(rooms()),
-            "key_runs": list(runs()), "key_drawn": [drawn_vector(index) for index in range(DRAWN)]}
+            "key_runs": list(runs()), "key_drawn": [drawn_vector(index) for index in range(DRAWN)],
+            "key_steady": expected(steady()),
+            "key_steady_drawn": [drawn_steady(index) for index in range(DRAWN_STEADY)]}
 
 
 def vector_bytes(vector: Vector) -> bytes:

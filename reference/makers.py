@@ -4,15 +4,19 @@ record."""
 from __future__ import annotations
 
 import struct
+from dataclasses import replace
 from typing import Iterator, List, Sequence, Tuple
 
 from chance import I64_MAX, TOP_BIT, Chance
 from damage import DAMAGES, DESCRIPTION_DAMAGES, changed, spoil_record, with_places_past_counts
 from lists import RECORD_POINTS, answer_call, record_lines
-from rules import ACCEPTED, BUDGET, BUDGET_USED, CLOCK, CONDUCTIVITY, ELEMENT_PLACES, GRAVITY, LEVEL, OUTFLOW_PER_SECOND
-from rules import POINT_PLACES, SOLIDS, STARTING_WATER, STEP, STRESS, U64_MAX, VOID, VOID_UNIT, WATER
+from rules import ACCEPTED, AT_REST, BAD_START, BUDGET, BUDGET_USED, CLOCK, CONDUCTIVITY, ELEMENT_PLACES, GRAVITY, LEVEL
+from rules import OUTFLOW_PER_SECOND, POINT_PLACES, SOLIDS, STARTING_WATER, STEP, STRESS, U64_MAX, VOID, VOID_UNIT
+from rules import WATER
 from rules import Compressibility, Description, Job, Layer, Pair, Record, buoyant_stresses, ceil_div, face_resistances
-from rules import is_layer, job_bytes, job_description, longest_step, open_job, resistance, run_call, void_ratio
+from rules import is_layer, job_bytes, job_description, longest_step, open_job, opened_record, read_job, resistance
+from rules import run_call, starting_waters, void_ratio
+
 
 AFFORDABLE = 3_000  # element-steps of one run
 
@@ -139,6 +143,23 @@ def make_levels(chance: Chance, bottom: int, stress: int) -> Pair:
     return top, min(max(level, LEVEL[0]), LEVEL[1])
 
 
+def open_at_any_level(job: bytes) -> Tuple[int, Record]:
+    """Open a job, in start 1 also one whose bottom is at another level than its top, as if that were no cause. A record
+    does not know its start, so that such layers serve too."""
+    refusal, record = open_job(job)
+    if refusal == BAD_START and job[11] == AT_REST:
+        parts = read_job(job)
+        water = starting_waters(parts)
+        if None not in water:
+            return ACCEPTED, opened_record(parts, water)
+    return refusal, record
+
+
+def emptied(job: Job) -> Job:
+    """A job in start 1, its water left out."""
+    return replace(job, start=AT_REST, elements=[(solids, 0) for solids, _ in job.elements])
+
+
 def make_job(chance: Chance) -> Job:
     """A job that is mostly accepted; its end and budget are affordable."""
     solids = make_solids(chance)
@@ -160,7 +181,7 @@ def make_job(chance: Chance) -> Job:
     end = chance.pick([CLOCK[1], CLOCK[1], far, far, far, far, far, longest, longest + 1, 0])
     job = Job(top=top, bottom=bottom, start=start, gravity=gravity, top_level=top_level, bottom_level=bottom_level,
               end=min(end, CLOCK[1]), elements=list(zip(solids, water)), curve1=curve1, curve2=curve2, table=table)
-    refusal, record = open_job(job_bytes(job))
+    refusal, record = open_at_any_level(job_bytes(job))
     job.budget = chance.between(*BUDGET) if refusal else affordable_budget(chance, record, job.end)
     return job
 
@@ -177,7 +198,7 @@ def affordable_budget(chance: Chance, record: Record, end: int) -> int:
 
 def affordable_job(job: bytes) -> bytes:
     """A job with its budget lowered where its run would be too long; refused ones are kept."""
-    refusal, record = open_job(job)
+    refusal, record = open_at_any_level(job)
     if refusal:
         return job
     most = max(1, AFFORDABLE // record.elements)
@@ -255,7 +276,7 @@ def make_calls(chance: Chance, record: Record, count: int) -> List[str]:
 def make_list(chance: Chance) -> str:
     """A script of one list from a job. Its first call often is refused, so as to show the record as opened."""
     job = made_job(chance, 8)
-    _, record = open_job(job)
+    _, record = open_at_any_level(job)
     first = ["load %d" % U64_MAX] if chance.one_in(2) else []
     lines = ["job %s" % job.hex() if job else "job"] + first + make_calls(chance, record, chance.between(0, 8))
     return "\n".join(lines) + "\n"
@@ -290,7 +311,7 @@ def fill_past_counts(chance: Chance, record: Record) -> None:
 
 def make_record(chance: Chance) -> str:
     """A script of one list from a record, which is a layer or no layer."""
-    refusal, record = open_job(made_job(chance, 30))
+    refusal, record = open_at_any_level(made_job(chance, 30))
     if refusal == ACCEPTED:
         if chance.one_in(2):
             age_record(chance, record)

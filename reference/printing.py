@@ -5,7 +5,8 @@ from __future__ import annotations
 import struct
 from typing import Iterable, List, Sequence
 
-from rules import header_refusal, open_job, read_job, result_length
+from rules import STEADY, STEADY_SECONDS, Job, body_refusal, header_refusal, open_job, opened_record, present_flows
+from rules import read_job, result_length, starting_waters
 
 
 # Titles and columns of the tables of a job.
@@ -19,6 +20,17 @@ def table_rows(title: str, heads: Sequence[str], rows: Iterable[Sequence[int]]) 
     return lines + ["%5d" % number + "".join("%24d" % cell for cell in row) for number, row in enumerate(rows, 1)]
 
 
+STARTS = ("water given", "at rest", "steady")
+
+
+def flow_lines(job: Job) -> List[str]:
+    """The flows by which a job in start 2 is steady or not, where there are any."""
+    if job.start != STEADY or body_refusal(job) or None in starting_waters(job):
+        return []
+    flows = present_flows(opened_record(job, starting_waters(job)), STEADY_SECONDS)
+    return ["upward flows in %d s, from the bottom: %s nm" % (STEADY_SECONDS, " ".join(map(str, flows)))]
+
+
 def describe_job(data: bytes) -> List[str]:
     """A job as lines for a person."""
     refusal = header_refusal(data)
@@ -27,10 +39,10 @@ def describe_job(data: bytes) -> List[str]:
     job = read_job(data)
     face = ("closed", "drained")
     lines = ["job, opening answers %d" % open_job(data)[0],
-             "top %s, bottom %s, start %d" % (face[job.top], face[job.bottom], job.start),
+             "top %s, bottom %s, start %d: %s" % (face[job.top], face[job.bottom], job.start, STARTS[job.start]),
              "specific gravity %d thousandths" % job.gravity,
              "top level %d nm, bottom level %d nm" % (job.top_level, job.bottom_level),
-             "end %d s, budget %d steps" % (job.end, job.budget)]
+             "end %d s, budget %d steps" % (job.end, job.budget)] + flow_lines(job)
     for (title, heads), rows in zip(TABLES, (job.elements, job.curve1, job.curve2, job.table)):
         lines += table_rows(title, heads, rows)
     return lines

@@ -9,6 +9,7 @@ import damage
 import makers
 import piezometer
 import rules
+import steady_jobs
 from chance import Chance
 from make_readings import MISSING, drawn_reading
 from piezometer import ANSWER_WORDS, COLUMN, PRESSURE, READING_WORDS
@@ -130,6 +131,15 @@ def any_words(chance: Chance) -> Iterator[Vector]:
         yield Vector(job, words, needed(words))
 
 
+def steady(chance: Chance) -> Iterator[Vector]:
+    """Readings of jobs in start 2 that are steady or nearly so."""
+    for _ in range(4):
+        job = makers.affordable_job(rules.job_bytes(steady_jobs.drawn_steady(chance)))
+        words = drawn_words(chance, final_pores(job), chance.between(0, 6))
+        yield Vector(job, words, near_enough(chance, words))
+
+
 # Families in the order of the stream, with their shares of the count in hundredths; sound ones make up the rest.
 FAMILIES: List[Tuple[int, Callable[[Chance], Iterator[Vector]]]] = [
-    (8, truncations), (10, rooms), (10, lengths), (10, elements), (6, any_words), (16, damaged)]
+    (8, truncations), (10, rooms), (10, lengths), (10, elements), (6, any_words), (16, damaged),
+    (10, steady)]

@@ -23,6 +23,7 @@ A refusal of 0 means that the call was accepted. A refused call leaves its recor
 from __future__ import annotations
 
 import argparse
+import functools
 import io
 import os
 import sys
@@ -32,6 +33,7 @@ from lists import CALLS_HELP, ScriptError, answer_script
 from makers import make_inputs
 from printing import describe
 from rules import JOB_BYTES_READ, key
+from steady_jobs import make_steady
 
 KEY_HELP = """\
 reads   A job on standard input, of which 8,192 bytes are read at most.
@@ -46,6 +48,7 @@ reads   Nothing. The same kind, seed and number always give the same input.
         KIND jobs      jobs for `key`, about a third of them damaged
         KIND lists     scripts for `calls`, each a list that begins with a job
         KIND records   scripts for `calls`, each a list that begins with a record; about half are no layer
+        KIND steady    jobs for `key` in start 2, of which most are steady and the rest nearly so
 writes  With --out, files DIR/job-00000.lsc (bytes), DIR/list-00000.txt or DIR/record-00000.txt and so on; DIR is made
         if need be. Without it, one script on standard output, the lists separated by blank lines; a job is then a
         list of its `job` statement alone. Units as in `key` and `calls`.
@@ -87,13 +90,14 @@ def make_verb(arguments: argparse.Namespace) -> int:
     """The verb `make`."""
     if arguments.out is not None:
         os.makedirs(arguments.out, exist_ok=True)
-    name = {"jobs": "job-%05d.lsc", "lists": "list-%05d.txt", "records": "record-%05d.txt"}[arguments.kind]
-    for number, data in enumerate(make_inputs(arguments.kind, arguments.seed, arguments.count)):
+    name = {"lists": "list-%05d.txt", "records": "record-%05d.txt"}.get(arguments.kind, "job-%05d.lsc")
+    make = make_steady if arguments.kind == "steady" else functools.partial(make_inputs, arguments.kind)
+    for number, data in enumerate(make(arguments.seed, arguments.count)):
         if arguments.out is not None:
             with open(os.path.join(arguments.out, name % number), "wb") as target:
                 target.write(data)
         else:
-            text = "job %s" % data.hex() if arguments.kind == "jobs" else data.decode("ascii")
+            text = "job %s" % data.hex() if arguments.kind in ("jobs", "steady") else data.decode("ascii")
             print(text.strip() + "\n")
     return 0
 
@@ -123,7 +127,8 @@ def parser() -> argparse.ArgumentParser:
     calls = verb("calls", "answer scripts of calls", CALLS_HELP, calls_verb)
     calls.add_argument("files", metavar="FILE", nargs="*", help="scripts; standard input if there is none")
     make = verb("make", "make test inputs from a seed", MAKE_HELP, make_verb)
-    make.add_argument("kind", metavar="KIND", choices=["jobs", "records", "lists"], help="jobs, records or lists")
+    make.add_argument("kind", metavar="KIND", choices=["jobs", "records", "lists", "steady"],
+                      help="jobs, records, lists or steady")
     make.add_argument("--seed", type=int, required=True, metavar="S", help="a whole number of 0 or more")
     make.add_argument("--count", type=int, required=True, metavar="C", help="how many inputs")
     make.add_argument("--out", metavar="DIR", help="directory for the files")

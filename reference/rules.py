@@ -32,10 +32,16 @@ COUNTS = (ELEMENTS, CURVE_POINTS, CURVE_POINTS, TABLE_POINTS)
 STARTING_WATER = (0, 128_000_000_000)
 OUTFLOW_PER_SECOND = 2_300_000_000
 
+# Starts of a job, and when a layer is steady
+WATER_GIVEN, AT_REST, STEADY = STARTS = range(3)
+STEADY_SECONDS = 1_000
+STEADY_SPREAD = 1
+
 ELEMENT_PLACES = 128
 POINT_PLACES = 64
 VOID_UNIT = 100_000_000
 JOB_HEADER = 48
+SHORTEST_JOB = 144
 JOB_BYTES_READ = 8_192
 U64_MAX = 2**64 - 1
 
@@ -44,6 +50,7 @@ ACCEPTED = 0
 NO_MARK, NO_VERSION, BAD_HEADER, BAD_LENGTH, BAD_FIELD = range(1, 6)
 BAD_FIRST_CURVE, BAD_SECOND_CURVE, BAD_TABLE, BAD_START, SHORT_BUFFER = range(6, 11)
 NO_LAYER, BAD_LOAD, BAD_STEP, STEP_TOO_LONG, STEP_OFF_CURVE, BAD_RUN, SHORT_JOB_BUFFER = range(11, 18)
+NOT_STEADY = 20
 
 # Stops of a run
 AT_END, BUDGET_USED, NO_STEP, OFF_CURVE = range(4)
@@ -498,7 +505,7 @@ def read_job(job: bytes) -> Job:
 
 def is_stated_header(top: int, bottom: int, start: int, counts: Sequence[int], gravity: int) -> bool:
     """Whether faces, start, counts and specific gravity are among the values stated for them."""
-    return top in (0, 1) and bottom in (0, 1) and start in (0, 1) and are_stated_values(counts, gravity)
+    return top in (0, 1) and bottom in (0, 1) and start in STARTS and are_stated_values(counts, gravity)
 
 
 def header_refusal(job: bytes) -> int:
@@ -523,7 +530,7 @@ def body_refusal(job: Job) -> int:
             and within(job.end, CLOCK)
             and within(job.budget, BUDGET)
             and all(within(solids, SOLIDS) and within(water, WATER) for solids, water in job.elements)
-            and (job.start == 0 or all(water == 0 for _, water in job.elements))):
+            and (job.start != AT_REST or all(water == 0 for _, water in job.elements))):
         return BAD_FIELD
     if not is_compressibility(job.curve1):
         return BAD_FIRST_CURVE
@@ -560,21 +567,12 @@ def equilibrium_water(curve: Compressibility, solids: int, stress: int) -> Optio
 def starting_waters(job: Job) -> List[Optional[int]]:
     """Water of every element at the start, None for an element whose start is off the curve."""
     curve = Compressibility(job.curve1)
-    if job.start == 0:
+    if job.start != AT_REST:
         return [water if curve.holds(void_ratio(solids, water)) else None for solids, water in job.elements]
     heights = [solids for solids, _ in job.elements]
     load = job.table[0][1]
     return [equilibrium_water(curve, solids, load + buoyant)
             for solids, buoyant in zip(heights, buoyant_stresses(heights, job.gravity))]
-
-
-def start_of(job: Job) -> Tuple[int, List[int]]:
-    """Refusal for all that follows the header of a job, else 0 and the water of every element at the start."""
-    refusal = body_refusal(job)
-    if refusal:
-        return refusal, []
-    water = starting_waters(job)
-    return (BAD_START, []) if None in water else (ACCEPTED, water)
 
 
 def padded(items: Sequence, places: int, filler) -> List:
@@ -595,6 +593,40 @@ def opened_record(job: Job, water: Sequence[int]) -> Record:
         solids=padded([solids for solids, _ in job.elements], ELEMENT_PLACES, 0),
         water=padded(water, ELEMENT_PLACES, 0),
         load=job.table[0][1], starting_water=sum(water))
+
+
+def may_rest(job: Job) -> bool:
+    """Whether start 1 is for a job: its bottom is closed, or drained at the top's level."""
+    return job.bottom == 0 or job.bottom_level == job.top_level
+
+
+def present_flows(record: Record, seconds: int) -> List[int]:
+    """Water that would pass upward through every face of a layer as it stands, from the bottom up, in so many seconds,
+    whether or not they are too long a step."""
+    layer = Layer(record)
+    pressures, halves = layer.read(record.load, record.water)
+    return upward_flows(layer, pressures, face_resistances(layer, halves), seconds)
+
+
+def is_steady(record: Record) -> bool:
+    """Whether the flows through any two faces of a layer differ by no more than a nanometre; a closed one's is 0."""
+    flows = present_flows(record, STEADY_SECONDS)
+    return max(flows) - min(flows) <= STEADY_SPREAD
+
+
+def start_of(job: Job) -> Tuple[int, List[int]]:
+    """Refusal for all that follows the header of a job, else 0 and the water of every element at the start."""
+    refusal = body_refusal(job)
+    if refusal:
+        return refusal, []
+    if job.start == AT_REST and not may_rest(job):
+        return BAD_START, []
+    water = starting_waters(job)
+    if None in water:
+        return BAD_START, []
+    if job.start == STEADY and not is_steady(opened_record(job, water)):
+        return NOT_STEADY, []
+    return ACCEPTED, water
 
 
 def open_job(job: bytes) -> Tuple[int, Record]:

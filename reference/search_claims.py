@@ -1,8 +1,10 @@
 #!/usr/bin/env python3
 """Random search for a list of calls that breaks a claim: `python3 search_claims.py SECONDS SEED`.
 
-Small layers with extreme numbers, steps mostly as long as they may be, loads that jump. After every single step the
-claims of `Tally` (test_reference.py) are checked. Prints each counterexample as a script, and a count at the end.
+Small layers with extreme numbers, steps mostly as long as they may be, loads that jump; every third begins in start 2.
+After every single step the claims of `Tally` (test_reference.py) are checked, and after a first step of 1,000 s from
+start 2 that no element's water changed by more than 1 nm. Prints each counterexample as a script, and a count at the
+end.
 """
 
 import sys
@@ -12,6 +14,7 @@ import makers
 import rules
 from chance import Chance
 from lists import answer_call
+from steady import repaired, with_flows
 from test_reference import Tally
 
 
@@ -42,13 +45,16 @@ def distinct(chance, count, low, high):
     return sorted(chosen)
 
 
-def extreme_job(chance):
-    """A job whose longest step is mostly a few seconds."""
+QUICK, SLOW = (1, 2, 3, 10), (1_000, 1_001, 1_300, 4_000)  # seconds of longest steps
+
+
+def extreme_job(chance, seconds=QUICK):
+    """A job whose longest step is mostly a few seconds, or about others."""
     solids = extreme_solids(chance)
     curve1 = extreme_curve(chance)
     curve = rules.Compressibility(curve1)
     slowest = max(1, makers.usual_step(solids, curve, 1))
-    most = max(1, min(10**9, slowest // chance.pick([1, 2, 3, 10, chance.scaled(1, 10**6)])))
+    most = max(1, min(10**9, slowest // chance.pick([*seconds, chance.scaled(seconds[0], 10**6)])))
     least = chance.pick([most, 1, max(1, most // 2)])
     low, high = chance.pick([(1, 10**9), (curve.least_void, curve.greatest_void)])
     top, bottom = chance.pick([(1, 0), (1, 1), (1, 1), (0, 1), (0, 0)])
@@ -66,6 +72,13 @@ def extreme_job(chance):
         top=top, bottom=bottom, start=start, gravity=chance.pick([1_000, 1_000, 1_000, 1_001, 2_650, 5_000]),
         top_level=top_level, bottom_level=level, elements=list(zip(solids, water)), curve1=curve1,
         curve2=[(low, least), (high, most)], table=list(zip(times, loads))[:size])
+
+
+def steady_job(chance):
+    """A job in start 2 that is often steady, whose longest step is mostly 1,000 seconds or more."""
+    job = extreme_job(chance, SLOW)
+    flow = chance.pick([0, 0, 1, -1, chance.between(-50, 50)]) * 1_000 + chance.between(0, 999)
+    return repaired(with_flows(job, [flow] * (len(job.elements) + 1)))
 
 
 def some_load(chance, stresses):
@@ -92,11 +105,11 @@ def one_call(chance, record, gentle):
 def search(seconds, seed):
     """Make lists until the time is over."""
     finish = time.time() + seconds
-    index = lists = checks = moved = at_bound = found = 0
+    index = lists = steady = calm = checks = moved = at_bound = found = 0
     while time.time() < finish:
         chance = Chance(seed, index)
         index += 1
-        job = rules.job_bytes(extreme_job(chance))
+        job = rules.job_bytes(steady_job(chance) if index % 3 == 0 else extreme_job(chance))
         refusal, record = rules.open_job(job)
         if refusal:
             continue
@@ -104,9 +117,11 @@ def search(seconds, seed):
         tally = Tally(record)
         gentle = chance.one_in(2)
         lines = ["job " + job.hex()]
+        steady += job[11] == rules.STEADY
+        calm_step = job[11] == rules.STEADY and chance.one_in(2)
         for _ in range(chance.between(5, 40)):
             water = record.water_heights()
-            name, numbers = one_call(chance, record, gentle)
+            name, numbers = ("step", [1_000]) if calm_step else one_call(chance, record, gentle)
             lines.append(" ".join([name] + [str(number) for number in numbers]))
             answer = answer_call(record, name, numbers)
             tally.set_load(record.load)
@@ -115,12 +130,18 @@ def search(seconds, seed):
             excess = rules.excess_pressures(record)
             at_bound += min(excess) == tally.low - tally.falls or max(excess) == tally.high + tally.rises
             faults = tally.faults(record)
+            if calm_step and answer == "step 0":
+                calm += 1
+                if any(abs(new - old) > 1 for new, old in zip(record.water, water)):
+                    faults.append("first step from start 2")
+            calm_step = False
             if faults or answer.endswith(" 11"):
                 found += 1
                 print("\n".join(["broken: " + ", ".join(faults)] + lines + [""]))
                 break
-    print("%d lists, %d calls checked, %d moved water, %d with an excess pressure at its bound, %d counterexamples"
-          % (lists, checks, moved, at_bound, found))
+    print("%d lists, %d from start 2, %d with a first step of 1,000 s; %d calls checked, %d moved water, "
+          "%d with an excess pressure at its bound, %d counterexamples"
+          % (lists, steady, calm, checks, moved, at_bound, found))
 
 
 if __name__ == "__main__":

@@ -22,6 +22,9 @@ import lists  # noqa: E402
 import makers  # noqa: E402
 import piezometer  # noqa: E402
 import rules  # noqa: E402
+import steady  # noqa: E402
+import steady_jobs  # noqa: E402
+import steady_lists  # noqa: E402
 from chance import Chance  # noqa: E402
 from piezometer import COLUMN, PRESSURE, Reading  # noqa: E402
 
@@ -185,7 +188,7 @@ class Refusals(unittest.TestCase):
         1: [lambda job: setattr(job, "mark", b"LSR"), lambda job: setattr(job, "mark", b"lSC")],
         2: [lambda job: setattr(job, "version", 0), lambda job: setattr(job, "version", 257)],
         3: [lambda job: setattr(job, "top", 2), lambda job: setattr(job, "bottom", 255),
-            lambda job: setattr(job, "start", 2), lambda job: setattr(job, "gravity", 999),
+            lambda job: setattr(job, "start", 3), lambda job: setattr(job, "gravity", 999),
             lambda job: setattr(job, "gravity", 5_001), lambda job: setattr(job, "spare", b"\0\1"),
             lambda job: setattr(job, "elements", []), lambda job: setattr(job, "elements", job.elements * 65),
             lambda job: setattr(job, "curve1", job.curve1[:1]), lambda job: setattr(job, "curve2", job.curve2[:1]),
@@ -213,11 +216,12 @@ class Refusals(unittest.TestCase):
             lambda job: setattr(job, "table", [(0, 15_000_000), (9, 15_000_000), (9, 15_000_000)])],
         9: [lambda job: setattr(job, "elements", job.elements[:-1] + [(1_000_000, 2_000_001)]),
             lambda job: setattr(job, "elements", job.elements[:-1] + [(1_000_000, 999_999)])],
+        20: [lambda job: setattr(job, "start", 2)],
     }
     # One change of each cause that spoils nothing which the other one needs.
     LATER: Dict[int, Callable[[rules.Job], None]] = {
         2: CHANGES[2][0], 3: CHANGES[3][5], 5: CHANGES[5][0], 6: CHANGES[6][1], 7: CHANGES[7][1], 8: CHANGES[8][0],
-        9: CHANGES[9][0]}
+        9: CHANGES[9][0], 20: CHANGES[20][0]}
 
     def answer(self, changes: List[Callable[[rules.Job], None]], extra: bytes = b"", room: int = 6_000) -> int:
         """Refusal of the changed specimen, with bytes added to it; the buffer has to stay as it was."""
@@ -276,7 +280,7 @@ class Writer(unittest.TestCase):
 
     # Header numbers that are refused 3, by the names of their words.
     OUTSIDE: Dict[str, Tuple[int, ...]] = {
-        "top": (2, 255, 256, 257), "bottom": (2, 255, 256, 257), "start": (2, 255, 256, 257),
+        "top": (2, 255, 256, 257), "bottom": (2, 255, 256, 257), "start": (3, 255, 256, 257, 258),
         "elements": (0, 129, 255, 256, 257, 258), "curve1_count": (0, 1, 65, 255, 256, 257, 258),
         "curve2_count": (0, 1, 65, 255, 256, 257, 258), "table_count": (0, 65, 255, 256, 257),
         "gravity": (0, 1, 257, 999, 5_001, 65_535, 65_536, 65_537, 66_536)}
@@ -287,7 +291,7 @@ class Writer(unittest.TestCase):
         buffer = bytearray(b"\xa5" * room)
         words = description.words()
         answer = rules.write_job(description, buffer)
-        length = answer if answer > 17 else 0
+        length = answer if answer >= 144 else 0
         self.assertEqual((len(buffer), buffer[length:]), (room, b"\xa5" * (room - length)))
         self.assertEqual(description.words(), words)
         self.assertTrue(length == 0 or rules.open_job(bytes(buffer[:length]))[0] == 0)
@@ -394,15 +398,248 @@ class Writer(unittest.TestCase):
             description = makers.made_description(Chance(SEED, index), 2)
             self.assertEqual(rules.description_of(description.words()), description)
             answer, job = self.written(description)
-            answers[min(answer, 18)] = answers.get(min(answer, 18), 0) + 1
+            answers[min(answer, 144)] = answers.get(min(answer, 144), 0) + 1
             if answer != 3:
                 parts = rules.described_job(description)
-                self.assertEqual(rules.open_job(rules.job_bytes(parts))[0], answer if answer < 17 else 0)
+                self.assertEqual(rules.open_job(rules.job_bytes(parts))[0], answer if answer < 144 else 0)
             if job:
                 self.assertEqual(rules.read_description(job).words()[:12], description.words()[:12])
                 self.assertEqual(rules.read_description(job).groups(), description.groups())
-        self.assertEqual(sorted(answers), [3, 5, 6, 7, 8, 9, 18])
+        self.assertGreater(answers.pop(20), 0)
+        self.assertEqual(sorted(answers), [3, 5, 6, 7, 8, 9, 144])
         self.assertGreater(min(answers.values()), 9)
+
+
+class Levels(unittest.TestCase):
+    """Start 1 is only for a closed bottom, or one at the top's level."""
+
+    def test_levels_and_not_pressures(self) -> None:
+        for top_level in (0, 10_000_000, 200_000_000_000):
+            for more in (0, 1, -1, 101, -101, 102, 5_000_000):
+                level = top_level + more
+                if not 0 <= level <= 200_000_000_000:
+                    continue
+                job = replace(equilibrium(15_000_000), top_level=top_level, bottom=1, bottom_level=level)
+                self.assertEqual(rules.open_job(rules.job_bytes(job))[0], 9 if more else 0, (top_level, more))
+                self.assertEqual(rules.write_job(rules.job_description(job), bytearray(160)), 9 if more else 160)
+                if abs(more) < 102:
+                    self.assertEqual(rules.head_pressure(more), 0)
+        at_level = replace(equilibrium(15_000_000), bottom=1, bottom_level=10_000_000)
+        self.assertEqual(opened(at_level).water_heights(), [1_900_000] * 2)
+
+    def test_closed_bottom(self) -> None:
+        for top in (0, 1):
+            for top_level in (0, 1, 10_000_000):
+                job = replace(equilibrium(15_000_000), top=top, top_level=top_level)
+                self.assertEqual(opened(job).water_heights(), [1_900_000] * 2)
+
+    def test_order(self) -> None:
+        job = replace(equilibrium(15_000_000), bottom=1, bottom_level=12_000_000)
+        buffer = bytearray(135)
+        self.assertEqual((rules.key_into(rules.job_bytes(job), buffer), buffer), (9, bytes(135)))
+        wet = replace(job, elements=[(1_000_000, 0), (1_000_000, 1)])
+        self.assertEqual(rules.open_job(rules.job_bytes(wet))[0], 5)
+        self.assertEqual(rules.open_job(rules.job_bytes(replace(job, table=[(1, 1)])))[0], 8)
+
+    def test_start_0_at_any_level(self) -> None:
+        for level in (0, 10_000_000, 12_000_000, 200_000_000_000):
+            self.assertEqual(opened(specimen(bottom=1, bottom_level=level)).bottom_level, level)
+
+
+class Steady(unittest.TestCase):
+    """Start 2, worked by hand on the specimen's soil.
+
+    Water of 1,500,000 nm on solids of 1,000,000 nm is a void ratio of 1.5, an effective stress of 55,000,000 mPa, a
+    conductivity of 150,000 fm/s and a resistance of 4,905 x 2,500,000 / 150,000 = 81,750. A nanometre of water is
+    100 mPa. Under a load of 55,000,409 its excess pressure is 409, and 409,000 / 81,750 = 5.003 leave through the top.
+    """
+
+    WET = 1_500_000
+
+    def one(self, head: Optional[int], load: int = 55_000_409, **changes) -> rules.Job:
+        """One element whose bottom is drained at a head over the top, or closed."""
+        return specimen(**{"start": 2, "elements": [(1_000_000, self.WET)], "table": [(0, load)],
+                           "bottom": 0 if head is None else 1,
+                           "bottom_level": 0 if head is None else 10_000_000 + head, **changes})
+
+    def answer(self, job: rules.Job, room: int = 6_000) -> int:
+        """Refusal of a job, which opening, the key and the writer have to agree about; a refusal leaves the buffers."""
+        data = rules.job_bytes(job)
+        refusal, record = rules.open_job(data)
+        buffer, written = bytearray(b"\xa5" * room), bytearray(b"\xa5" * room)
+        self.assertEqual(rules.key_into(data, buffer), refusal or (10 if room < 56 + 40 * len(job.elements) else 0))
+        length = rules.write_job(rules.job_description(job), written)
+        self.assertEqual(length, refusal or (17 if room < len(data) else len(data)))
+        if refusal:
+            self.assertEqual((record, buffer, written), (rules.Record(), b"\xa5" * room, b"\xa5" * room))
+        elif room >= len(data):
+            self.assertEqual(bytes(written[:length]), data)
+        return refusal
+
+    def check(self, job: rules.Job, flows: List[int], refusal: int) -> None:
+        """A layer has these upward flows in 1,000 s and is accepted or refused 20."""
+        self.assertEqual(steady.flows_of(job), flows)
+        self.assertEqual(self.answer(job), refusal)
+
+    def test_upward(self) -> None:
+        # 83,385 nm are 818 mPa, and 818 - 409 is 409 again: 5 enter and 5 leave. 572,000 / 81,750 is 6.997.
+        for head, pressure, entering, refusal in (
+                (83_385, 818, 5, 0), (100_000, 981, 6, 0), (100_101, 981, 6, 0), (100_102, 982, 7, 20),
+                (75_026, 736, 4, 0), (75_025, 735, 3, 20)):
+            self.assertEqual(rules.head_pressure(head), pressure)
+            self.check(self.one(head), [entering, 5], refusal)
+
+    def test_downward(self) -> None:
+        for head, entering, refusal in ((-83_385, -5, 0), (-100_000, -6, 0), (-100_102, -7, 20), (-75_026, -4, 0),
+                                        (-75_025, -3, 20)):
+            self.check(self.one(head, 54_999_591), [entering, -5], refusal)
+
+    def test_sign_of_the_bottom(self) -> None:
+        self.check(self.one(0), [-5, 5], 20)
+        self.check(self.one(0, 54_999_591), [5, -5], 20)
+        self.check(self.one(0, 55_000_082), [-1, 1], 20)
+        self.check(self.one(0, 55_000_081), [0, 0], 0)
+
+    def test_closed_faces_count_as_0(self) -> None:
+        for load, flow, refusal in ((55_000_000, 0, 0), (55_000_081, 0, 0), (55_000_163, 1, 0), (55_000_164, 2, 20),
+                                    (54_999_837, -1, 0), (54_999_836, -2, 20), (55_000_409, 5, 20)):
+            self.check(self.one(None, load), [0, flow], refusal)
+            self.check(self.one(0, load, top=0), [-flow, 0], refusal)
+            self.check(self.one(None, load, top=0), [0, 0], 0)
+
+    def test_seconds(self) -> None:
+        # 409 x 999 / 81,750 is 4.998 and 572 x 1,001 / 81,750 is 7.004; 326 x 999 / 81,750 is 3.98.
+        for head, flows in ((100_000, {999: [6, 4], 1_000: [6, 5], 1_001: [7, 5]}),
+                            (75_025, {999: [3, 4], 1_000: [3, 5], 1_004: [4, 5]})):
+            for seconds, expected in flows.items():
+                self.assertEqual(steady.flows_of(self.one(head), seconds), expected)
+        self.assertEqual((self.answer(self.one(100_000)), self.answer(self.one(75_025))), (0, 20))
+
+    def test_any_two_faces(self) -> None:
+        # 10 nm more water below are 1,000 mPa more, and 1,000,000 / (81,750 + 81,750) is 6.116; so p is 1,409 there.
+        def two(head: int) -> rules.Job:
+            return self.one(head, elements=[(1_000_000, self.WET + 10), (1_000_000, self.WET)])
+
+        self.assertEqual(rules.Layer(steady.record_of(two(0))).read(55_000_409, [self.WET + 10, self.WET]),
+                         ([1_409, 409], [81_750, 81_750]))
+        for head, pressure, entering, refusal in ((202_039, 1_982, 7, 20), (201_937, 1_981, 6, 0),
+                                                  (185_322, 1_818, 5, 0), (176_963, 1_736, 4, 20)):
+            self.assertEqual(rules.head_pressure(head), pressure)
+            self.check(two(head), [entering, 6, 5], refusal)
+
+    def test_too_long_is_not_asked(self) -> None:
+        record = opened(self.one(83_385))
+        self.assertEqual((rules.step_call(record, 1_000), rules.step_call(record, 408)), (14, 0))
+        self.assertEqual(record.water_heights(), [self.WET])
+
+    def test_step_of_1_000_s(self) -> None:
+        # A tenth of the conductivity is ten times the resistance: 817,500. 4,088,000 / 817,500 is 5.0006.
+        slow = [(100_000_000, 10_000), (200_000_000, 20_000)]
+        for head, entering in ((833_436, 5), (916_820, 6), (750_052, 4)):
+            job = self.one(head, 55_004_088, curve2=slow)
+            self.check(job, [entering, 5], 0)
+            record = opened(job)
+            self.assertEqual(rules.step_call(record, 1_000), 0)
+            self.assertEqual(record.water_heights(), [self.WET + entering - 5])
+            self.assertEqual((record.top_outflow, record.bottom_outflow), (5, -entering))
+
+    def test_opening_load(self) -> None:
+        job = self.one(83_385)
+        for later in (0, 55_000_410, 99_000_000):
+            self.assertEqual(self.answer(replace(job, table=[(0, 55_000_409), (1, later)])), 0)
+        for first in (54_999_000, 55_001_000, 99_000_000):
+            self.assertEqual(self.answer(replace(job, table=[(0, first), (1, 55_000_409)])), 20)
+
+    def test_order(self) -> None:
+        steady_job, uneven = self.one(83_385), self.one(100_102)
+        for room in (0, 56, 95, 96, 143, 144):
+            self.assertEqual((self.answer(steady_job, room), self.answer(uneven, room)), (0, 20))
+        for water in (0, 999_999, 2_000_001):
+            self.assertEqual(self.answer(replace(uneven, elements=[(1_000_000, water)])), 9)
+        for changes, cause in (({"budget": 1_000_001}, 5), ({"elements": [(1_000_000, 1_000_000_001)]}, 5),
+                               ({"curve1": uneven.curve1[::-1]}, 6), ({"curve2": uneven.curve2[::-1]}, 7),
+                               ({"table": [(1, 55_000_409)]}, 8)):
+            self.assertEqual(self.answer(replace(uneven, **changes)), cause)
+            self.assertEqual(self.answer(replace(steady_job, **changes)), cause)
+        for start in (3, 4, 130, 255):
+            self.assertEqual(rules.open_job(rules.job_bytes(replace(steady_job, start=start)))[0], 3)
+        for start in (3, 255, 256, 257, 258, 2**32 + 2, 2**64 - 1):
+            description = replace(rules.job_description(steady_job), start=start)
+            self.assertEqual(rules.write_job(description, bytearray(200)), 3)
+
+    def test_water_of_start_1(self) -> None:
+        for bottom in (0, 1):
+            rest = replace(equilibrium(15_000_000), bottom=bottom, bottom_level=bottom * 10_000_000)
+            self.check(replace(rest, start=2, elements=[(1_000_000, 1_900_000)] * 2), [0, 0, 0], 0)
+            self.assertEqual(self.answer(replace(rest, start=2)), 9)
+
+    def test_nothing_else_knows_of_the_start(self) -> None:
+        compared = 0
+        for index in range(60):
+            job = steady_jobs.drawn_steady(Chance(SEED, index))
+            given = replace(job, start=0)
+            if self.answer(job) == 0:
+                self.assertEqual(opened(job), opened(given))
+                self.assertEqual(rules.key(rules.job_bytes(job)), rules.key(rules.job_bytes(given)))
+                compared += 1
+        self.assertGreater(compared, 20)
+
+    def test_literal(self) -> None:
+        """Drawn layers against the paper's words: outflows first, then every pair of faces."""
+        answers = {0: 0, 20: 0}
+        for index in range(250):
+            job = steady_jobs.drawn_steady(Chance(SEED + 1, index))
+            if not steady.on_curve(job):
+                continue
+            solids, record = [pair[0] for pair in job.elements], steady.record_of(job)
+            pressures, halves = rules.Layer(record).read(job.table[0][1], record.water)
+            out_of_top = math.trunc(Fraction(pressures[-1] * 1_000, halves[-1])) if job.top else 0
+            held = rules.head_pressure(job.bottom_level - job.top_level)
+            out_of_bottom = math.trunc(Fraction((pressures[0] - held) * 1_000, halves[0])) if job.bottom else 0
+            inner = [math.trunc(Fraction((pressures[j] - pressures[j + 1]) * 1_000, halves[j] + halves[j + 1]))
+                     for j in range(len(solids) - 1)]
+            flows = [-out_of_bottom] + inner + [out_of_top]
+            expected = 0 if all(abs(a - b) <= 1 for a in flows for b in flows) else 20
+            self.assertEqual(rules.open_job(rules.job_bytes(job))[0], expected, index)
+            answers[expected] += 1
+        self.assertGreater(min(answers.values()), 25)
+
+    def test_kinds(self) -> None:
+        for name, jobs in steady_jobs.made_kinds().items():
+            for number, (cause, job) in enumerate(jobs):
+                self.assertEqual(rules.open_job(rules.job_bytes(job))[0], cause, (name, number))
+
+    def test_water_is_found(self) -> None:
+        for level in (0, 9_000_000, 10_000_000, 10_000_500, 11_000_000, 50_000_000, 400_000_000):
+            for count in (1, 2, 5, 12):
+                job = specimen(bottom=1, bottom_level=level, gravity=2_650, table=[(0, 50_000_000)],
+                               curve2=[(100_000_000, 20_000), (200_000_000, 40_000)],
+                               elements=[(700_000 + 50_000 * j, 0) for j in range(count)])
+                found = steady.settled(job)
+                self.assertEqual(self.answer(found), 0, (level, count))
+                self.assertEqual((found.bottom_level, found.start), (level, 2))
+
+    def test_claims(self) -> None:
+        """Balance, bounds of excess pressure and the first step of 1,000 s, from start 2."""
+        checked = calm = 0
+        for job, calls in steady_lists.made_lists():
+            refusal, record = rules.open_job(rules.job_bytes(job))
+            if refusal:
+                continue
+            tally = Tally(record)
+            self.assertEqual(tally.faults(record), [])
+            for number, (name, *numbers) in enumerate(calls):
+                water = record.water_heights()
+                answer = lists.answer_call(record, name, numbers[:lists.CALLS[name]])
+                if name == "run":  # its loads in between are not seen here
+                    break
+                tally.set_load(record.load)
+                self.assertEqual(tally.faults(record), [], answer)
+                checked += 1
+                if number == 0 and (name, numbers[0], answer) == ("step", 1_000, "step 0"):
+                    self.assertLessEqual(max(abs(a - b) for a, b in zip(water, record.water_heights())), 1)
+                    calm += 1
+        self.assertGreater(min(checked, 10 * calm), 300)
 
 
 class Floats(unittest.TestCase):

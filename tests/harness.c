@@ -13,8 +13,9 @@
 
 #include "consolidation_key.h"
 
-enum { MOST_BYTES = 65536, GUARD = 256, WORD = sizeof(uint64_t), NUMBERS = 11, STOPS = 4, REFUSALS = 18 };
+enum { MOST_BYTES = 65536, GUARD = 256, WORD = sizeof(uint64_t), NUMBERS = 21, STOPS = 4 };
 enum { READING = 3 * WORD, ANSWER = 5 * WORD, READING_NUMBERS = 20 };
+enum { FIRST_OPENING = 1, LAST_OPENING = 10, NOT_STEADY = 20 };
 
 enum kind { END, KEY, WRITER, READINGS };
 
@@ -27,7 +28,7 @@ struct test_case {
 // How many cases were answered by each number, a job's length counting as 0, and how many readings by each.
 struct tally {
     uint64_t jobs, descriptions, lists, readings, missing;
-    uint64_t numbers[NUMBERS], stops[STOPS], answers[REFUSALS], list_numbers[NUMBERS];
+    uint64_t numbers[NUMBERS], stops[STOPS], answers[NUMBERS], list_numbers[NUMBERS];
     uint64_t reading_numbers[READING_NUMBERS];
 };
 
@@ -81,16 +82,22 @@ static void read_words(uint8_t *bytes, uint64_t count)
     }
 }
 
+// Whether a number is 0 or a cause for which a job is refused.
+static int is_job_number(uint64_t number)
+{
+    return number <= LAST_OPENING || number == NOT_STEADY;
+}
+
 // Whether the number of the current case is one of its kind, and what is to be written fits.
 static int is_case(void)
 {
     if (current.room > MOST_BYTES || current.written > current.room)
         return 0;
     if (current.kind == KEY)
-        return current.number < NUMBERS;
+        return is_job_number(current.number);
     if (current.kind == WRITER)
-        return current.written == (current.number < REFUSALS ? 0 : current.number);
-    return current.kind == READINGS && current.number < NUMBERS && current.room % WORD == 0 &&
+        return current.written == (current.number < NUMBERS ? 0 : current.number);
+    return current.kind == READINGS && is_job_number(current.number) && current.room % WORD == 0 &&
            current.written == (current.number == 0 ? current.readings_len / READING * ANSWER : 0);
 }
 
@@ -288,7 +295,7 @@ static void count(struct tally *tally)
 {
     if (current.kind == WRITER) {
         tally->descriptions++;
-        tally->answers[current.number < REFUSALS ? current.number : 0]++;
+        tally->answers[current.number < NUMBERS ? current.number : 0]++;
         return;
     }
     if (current.kind == READINGS) {
@@ -312,19 +319,26 @@ static void print_counts(const uint64_t *counts, int first, int end, int all)
         }
 }
 
+// Prints how often a job was refused for each cause.
+static void print_refusals(const uint64_t *counts)
+{
+    print_counts(counts, FIRST_OPENING, LAST_OPENING + 1, 1);
+    printf(", %d: %llu", NOT_STEADY, (unsigned long long)counts[NOT_STEADY]);
+}
+
 static void print_tally(const struct tally *tally)
 {
     printf("%llu jobs agree: accepted %llu; refused", (unsigned long long)tally->jobs,
            (unsigned long long)tally->numbers[0]);
-    print_counts(tally->numbers, 1, NUMBERS, 1);
+    print_refusals(tally->numbers);
     printf("; stops");
     print_counts(tally->stops, 0, STOPS, 1);
     printf("; %llu descriptions agree: written %llu; refused", (unsigned long long)tally->descriptions,
            (unsigned long long)tally->answers[0]);
-    print_counts(tally->answers, 1, REFUSALS, 0);
+    print_counts(tally->answers, 1, NUMBERS, 0);
     printf("; %llu lists of readings agree: answered %llu; refused", (unsigned long long)tally->lists,
            (unsigned long long)tally->list_numbers[0]);
-    print_counts(tally->list_numbers, 1, NUMBERS, 1);
+    print_refusals(tally->list_numbers);
     printf("; %llu readings: compared %llu, missing %llu; refused", (unsigned long long)tally->readings,
            (unsigned long long)(tally->reading_numbers[0] - tally->missing), (unsigned long long)tally->missing);
     print_counts(tally->reading_numbers, 1, READING_NUMBERS, 0);

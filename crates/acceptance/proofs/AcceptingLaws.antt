@@ -1,4 +1,4 @@
--- What accepting a description answers and leaves, by its first cause and the water of its start.
+-- What accepting a description answers and leaves, by its first cause and its start.
 use Prim.Native.Nat.{ℕ}
 use native.Mathlib.Omega.{arith}
 use mathlib.Core.Bool.{true, false}
@@ -10,14 +10,14 @@ use Rattle.weights.specs.Weights.{burdenAt}
 use Rattle.numbers.specs.Arrays.{filled}
 use Rattle.numbers.specs.Sums.{sum}
 use Rattle.rules.specs.Job.{Description, describedCauses, frameOf, headerSound, jobSite}
-use Rattle.rules.specs.Opening.{accepted, acceptedWater, descriptionWater, layerCauses, startedWater}
+use Rattle.rules.specs.Opening.{accepted, acceptedWater, layerCauses, startedWater, started, startedWith, notStarted}
 use Rattle.rules.specs.Record.{progressOf}
 use Rattle.rules.specs.Refusals.{firstCause}
 use Rattle.rules.specs.Start.{openingState}
 use Rattle.rules.specs.declared.answers.Acceptance.{Acceptance}
 use Rattle.rules.specs.declared.answers.Acceptance.the-variants.{Accepted, Refused}
 use Rattle.rules.specs.declared.answers.Refusal.{Refusal}
-use Rattle.rules.specs.declared.answers.Refusal.the-variants.{HeaderOutside, StartOffCurve}
+use Rattle.rules.specs.declared.answers.Refusal.the-variants.{HeaderOutside}
 use Rattle.rules.specs.declared.record.Frame.{Frame}
 use Rattle.rules.specs.declared.record.Progress.{Progress}
 
@@ -53,22 +53,22 @@ module _ (d : Description) where
     burden-left = λ before. rw (e, acceptedBurden);
   }
 
-  -- none of them: 9, or a layer
+  -- none of them: 9 or 20, or a layer
   module _ (e : firstCause (layerCauses d) ≡ none) where
-    pub off-accepts : descriptionWater d ≡ none → Accepts (Refused StartOffCurve) d.water burdensIn
+    pub unstarted-accepts : (cause : Refusal) → started d ≡ notStarted cause → Accepts (Refused cause) d.water burdensIn
     unfolding accepted acceptedWater acceptedBurden startedWater
-    off-accepts off = record {
-      answers = rw (e, off, accepted);
-      water-left = rw (e, off, acceptedWater, startedWater);
+    unstarted-accepts cause is = record {
+      answers = rw (e, is, accepted);
+      water-left = rw (e, is, acceptedWater, startedWater);
       burden-left = λ before. rw (e, acceptedBurden);
     }
 
-    pub start-accepts : (water : List ℕ) → descriptionWater d ≡ some water →
+    pub start-accepts : (water : List ℕ) → started d ≡ startedWith water →
         Accepts (Accepted (frameOf d.header (sum water)) (progressOf (openingState (jobSite d) water))) (waterStarted (some water) d.water) burdensIn
     unfolding accepted acceptedWater acceptedBurden startedWater waterStarted
-    start-accepts water on = record {
-      answers = rw (e, on, accepted);
-      water-left = rw (e, on, acceptedWater, startedWater);
+    start-accepts water is = record {
+      answers = rw (e, is, accepted);
+      water-left = rw (e, is, acceptedWater, startedWater);
       burden-left = λ before. rw (e, acceptedBurden);
     }
 
@@ -79,9 +79,9 @@ module _ (d : Description) where
     where
       go : (first : Option Refusal) → elim first as (λ _. Acceptance) [
         | some cause ↦ Refused cause
-        | none ↦ elim (descriptionWater d) [
-          | none ↦ Refused StartOffCurve
-          | some water ↦ Accepted (frameOf d.header (sum water)) (progressOf (openingState (jobSite d) water))
+        | none ↦ elim (started d) [
+          | notStarted cause ↦ Refused cause
+          | startedWith water ↦ Accepted (frameOf d.header (sum water)) (progressOf (openingState (jobSite d) water))
         ]
       ] ≡ Accepted frame progress → first ≡ none
       go none e = refl

@@ -6,9 +6,9 @@ use lib.Dec.{eqb, ltb, eqb→eq}
 use borrow.Author.Tests.{ltb-true, ltb-false}
 use lib.IntN.{pos}
 use lib.ListN.{getD, length}
-use mathlib.Core.Bool.{Bool, true, false, _||_}
+use mathlib.Core.Bool.{Bool, true, false, not, _||_}
 use mathlib.Core.List.{List, map}
-use mathlib.Core.Option.{some}
+use mathlib.Core.Option.{none, some}
 use mathlib.Core.Path.{_≡_, refl, sym, ap, _∙_}
 use Rattle.acceptance.specs.Accepting.{waterStarted}
 use Rattle.laws.proofs.Every.{every-at}
@@ -23,20 +23,23 @@ use Rattle.quantities.specs.Quantities.{waterLimits}
 use Rattle.rules.specs.Start.{restingFrom, startWater}
 use Rattle.rules.specs.Step.{allOnCurve}
 use Rattle.start.proofs.Heights.{heights-few, heights-most}
-use Rattle.start.proofs.Opened.{given-start, resting-start, resting-array}
+use Rattle.start.proofs.Opened.{given-start, resting-start, unrested-start, resting-array}
 use Rattle.start.specs.Rest.{allOrNone, restingHeights}
 
 -- ---- the water that is found
 
-module _ (soil : Skeleton) (Bs Ss : List ℕ) (start : ℕ) (given : List ℕ) (load : ℕ) where
-  -- start 0: what is given, by the test that all of it is on the curve
-  pub given-found : start ≡ 0 → {on : Bool} → on ≡ allOnCurve soil Ss (map pos given) →
-      startWater soil Bs Ss start given load ≡ allOrNone on given
-  given-found e is = given-start soil Bs Ss start given load (eq-eqb start 0 e) ∙ ap (λ (on : Bool). allOrNone on given) (sym is)
+module _ (soil : Skeleton) (Bs Ss : List ℕ) (mayRest : Bool) (start : ℕ) (given : List ℕ) (load : ℕ) where
+  -- the starts 0 and 2: what is given, by the test that all of it is on the curve
+  pub given-found : (start ≡ 1 → ⊥) → {on : Bool} → on ≡ allOnCurve soil Ss (map pos given) →
+      startWater soil Bs Ss mayRest start given load ≡ allOrNone on given
+  given-found e is = given-start soil Bs Ss mayRest start given load (ne-eqb start 1 e) ∙ ap (λ (on : Bool). allOrNone on given) (sym is)
 
-  -- start 1: what rests
-  pub resting-found : (start ≡ 0 → ⊥) → startWater soil Bs Ss start given load ≡ restingFrom soil load Bs Ss
-  resting-found e = resting-start soil Bs Ss start given load (ne-eqb start 0 e)
+  -- start 1: what rests, and nothing over another level
+  pub resting-found : start ≡ 1 → mayRest ≡ true → startWater soil Bs Ss mayRest start given load ≡ restingFrom soil load Bs Ss
+  resting-found e over = resting-start soil Bs Ss mayRest start given load (eq-eqb start 1 e) over
+
+  pub unrested-found : start ≡ 1 → mayRest ≡ false → startWater soil Bs Ss mayRest start given load ≡ none
+  unrested-found e over = unrested-start soil Bs Ss mayRest start given load (eq-eqb start 1 e) over
 
 -- ---- the array that is left
 
@@ -46,7 +49,7 @@ module _ (n : ℕ) (before : List ℕ) (few : n ≤ length before) where
   unfolding firstPlaces
   own-places = rw (tabulate-getD n before 0 few) (overlaid-take n before)
 
-  -- start 0
+  -- the starts 0 and 2
   pub given-left : (on : Bool) → before ≡ waterStarted (allOrNone on (firstPlaces n before)) before
   unfolding allOrNone waterStarted
   given-left true = sym own-places
@@ -89,6 +92,6 @@ module _ (n : ℕ) (before : List ℕ) (few : n ≤ length before) where
         overlaid-overlaid (tabulate n (λ _. 0)) heights before (omega (arith, no-more, length-tabulate {A = ℕ} n (λ _. 0))) ∙
         ap (λ (l : List ℕ). overlaid l before) (tabulate-cong n (λ _. 0) (λ j. getD before j 0) each) ∙ own-places
 
--- no water is given but in start 0
-pub dry-given : (start : ℕ) (dry : Bool) → (start ≡ 0 → ⊥) → (eqb start 0 || dry) ≡ true → dry ≡ true
-dry-given start dry e t = rw (ne-eqb start 0 e) at t
+-- no water is given in start 1
+pub dry-given : (start : ℕ) (dry : Bool) → start ≡ 1 → (not (eqb start 1) || dry) ≡ true → dry ≡ true
+dry-given start dry e t = rw (eq-eqb start 1 e) at t

@@ -3,7 +3,7 @@ ghost use lib.IntN.{pos};
 ghost use mathlib.Core.Path.{_≡_};
 ghost use Prim.Native.Nat.{_≤_};
 ghost use Rattle.acceptance.specs.Accepting.{progressAt};
-ghost use Rattle.rules.specs.Job.{frameOf, numberedFace};
+ghost use Rattle.rules.specs.Job.{countsOf, frameOf, numberedFace};
 ghost use Rattle.quantities.specs.Quantities.{levelLimits, stressLimits, head};
 use quantities::Clock;
 use quantities::Face;
@@ -12,6 +12,7 @@ use quantities::Outflow;
 use quantities::Pressure;
 use record_parts::faces;
 use rules::job::Header;
+use rules::record::CurveCounts;
 use rules::record::Frame;
 use rules::record::Progress;
 
@@ -56,5 +57,15 @@ pub fn opening_progress(load: u64) -> Progress
         clock: Clock(0),
         top_outflow: Outflow(0),
         bottom_outflow: Outflow(0),
+    }
+}
+
+// How many points the curves of a header have.
+pub fn curve_counts(header: Header) -> CurveCounts
+    ensures { λ r. ⌜ r ≡ countsOf header ⌝ }
+{
+    CurveCounts {
+        compressibility: header.compressibility_points,
+        conductivity: header.conductivity_points,
     }
 }

@@ -1,11 +1,11 @@
--- There are nineteen causes, numbered from 1.
+-- There are twenty causes, numbered from 1.
 use Prim.Native.Nat.{_≤_, _<_}
 use lib.Dec.{lit≤}
 use Rattle.rules.specs.Refusals.{refusalNumber}
 use Rattle.rules.specs.declared.answers.Refusal.{Refusal}
-use Rattle.rules.specs.declared.answers.Refusal.the-variants.{ShortOrUnmarked, OtherVersion, HeaderOutside, WrongLength, FieldOutside, CompressibilityCurve, ConductivityCurve, LoadTable, StartOffCurve, ShortBuffer, NoLayer, LoadOutside, StepOutside, StepTooLong, StepOffCurve, RunOutside, ShortJobBuffer, ReadingOutside, ElementOutside}
+use Rattle.rules.specs.declared.answers.Refusal.the-variants.{ShortOrUnmarked, OtherVersion, HeaderOutside, WrongLength, FieldOutside, CompressibilityCurve, ConductivityCurve, LoadTable, StartOffCurve, ShortBuffer, NoLayer, LoadOutside, StepOutside, StepTooLong, StepOffCurve, RunOutside, ShortJobBuffer, ReadingOutside, ElementOutside, StartNotSteady}
 
-pub cause-numbered : (cause : Refusal) → (0 < refusalNumber cause) × (refusalNumber cause ≤ 19)
+pub cause-numbered : (cause : Refusal) → (0 < refusalNumber cause) × (refusalNumber cause ≤ 20)
 unfolding refusalNumber
 cause-numbered ShortOrUnmarked = (lit≤ tt, lit≤ tt)
 cause-numbered OtherVersion = (lit≤ tt, lit≤ tt)
@@ -26,3 +26,4 @@ cause-numbered RunOutside = (lit≤ tt, lit≤ tt)
 cause-numbered ShortJobBuffer = (lit≤ tt, lit≤ tt)
 cause-numbered ReadingOutside = (lit≤ tt, lit≤ tt)
 cause-numbered ElementOutside = (lit≤ tt, lit≤ tt)
+cause-numbered StartNotSteady = (lit≤ tt, lit≤ tt)

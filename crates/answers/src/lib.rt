@@ -35,6 +35,7 @@ pub fn refusal_number(cause: Refusal) -> u64
         Refusal::ShortJobBuffer => 17,
         Refusal::ReadingOutside => 18,
         Refusal::ElementOutside => 19,
+        Refusal::StartNotSteady => 20,
     }
 }
 

@@ -1,4 +1,4 @@
--- The proof of what is claimed: `Term3`, from what holds after a list of calls.
+-- The proofs of what is claimed: `Term3`, from what holds after a list of calls, and `StandsStill`.
 -- numbers and causes
 pub mod Causes
 pub mod Extremes
@@ -21,3 +21,5 @@ pub mod Courses
 pub mod Replay
 pub mod After
 pub mod Term3
+-- a layer opened by start 2
+pub mod StandsStill

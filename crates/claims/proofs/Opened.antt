@@ -3,6 +3,7 @@ use Prim.Native.Nat.{ℕ, _≤_}
 use native.Mathlib.Omega.{arith}
 use lib.IntN.{pos, _+ℤ_, +ℤ-idr}
 use lib.ListN.{length}
+use mathlib.Core.Bool.{true}
 use mathlib.Core.List.{List, []}
 use mathlib.Core.Logic.{_⊎_, inl, inr}
 use mathlib.Core.Option.{Option, none, some}
@@ -13,7 +14,7 @@ use Rattle.claims.proofs.Described.{Described, described-sound, fixed-o
 use Rattle.claims.proofs.Fixed.{sound-site, water-limited, own-places}
 use Rattle.claims.proofs.Kept.{SoundSite, Kept}
 use Rattle.claims.proofs.Stands.{Stands}
-use Rattle.claims.proofs.Starts.{Starts, water-starts}
+use Rattle.claims.proofs.Starts.{Starts, water-starts, started-parts}
 use Rattle.laws.proofs.Every.{every-at}
 use Rattle.numbers.proofs.Filled.{first-length}
 use Rattle.numbers.proofs.Interval.{within-pos, within-le}
@@ -22,40 +23,40 @@ use Rattle.numbers.proofs.Sums.{sum-le}
 use Rattle.rules.specs.Job.{Description, described, frameOf, jobSite, givenWater, jobCauses}
 use Rattle.laws.proofs.Lengths.{burdens-length}
 use Rattle.rules.specs.Layer.{Site, skeleton, burdens}
-use Rattle.rules.specs.Opening.{openedRecord, refusedOpening, descriptionWater, opening}
+use Rattle.rules.specs.Opening.{Started, startedWith, notStarted, openedRecord, refusedOpening, descriptionWater, startSteady, started, opening}
 use Rattle.quantities.specs.Quantities.{startingWaterLimits, waterLimits}
 use Rattle.rules.specs.Record.{recordSite, recordState}
 use Rattle.rules.specs.Refusals.{firstCause}
-use Rattle.rules.specs.Start.{openingLoad, openingState}
+use Rattle.rules.specs.Start.{restsOver, openingLoad, openingState}
 use Rattle.rules.specs.declared.answers.Answer.the-variants.{Done, Refused}
 use Rattle.rules.specs.declared.answers.Answered.{Answered}
 use Rattle.rules.specs.declared.answers.Refusal.{Refusal}
-use Rattle.rules.specs.declared.answers.Refusal.the-variants.{StartOffCurve}
 
 -- opening refuses a job and leaves the blank record, or is done
 pub opening-either : (job : List ℕ) →
     ((cause : Refusal) × (opening job ≡ refusedOpening cause)) ⊎ ((opening job) .answer ≡ Done)
 unfolding opening
-opening-either job = found (firstCause (jobCauses job)) (descriptionWater (described job))
+opening-either job = found (firstCause (jobCauses job)) (started (described job))
   where
-    found : (first : Option Refusal) (water : Option (List ℕ)) →
+    found : (first : Option Refusal) (start : Started) →
         let a : Answered = elim first as (λ _. Answered) [
           | some cause ↦ refusedOpening cause
-          | none ↦ elim water as (λ _. Answered) [
-            | none ↦ refusedOpening StartOffCurve
-            | some water ↦ record { answer = Done; after = openedRecord (described job) water }
+          | none ↦ elim start as (λ _. Answered) [
+            | notStarted cause ↦ refusedOpening cause
+            | startedWith water ↦ record { answer = Done; after = openedRecord (described job) water }
           ]
         ] in
         ((cause : Refusal) × (a ≡ refusedOpening cause)) ⊎ (a .answer ≡ Done)
-    found (some cause) water = inl (cause, refl)
-    found none none = inl (StartOffCurve, refl)
-    found none (some water) = inr refl
+    found (some cause) start = inl (cause, refl)
+    found none (notStarted cause) = inl (cause, refl)
+    found none (startedWith water) = inr refl
 
 -- what opening found in a job that it accepts
 pub record Opened (job : List ℕ) : Type 0 where
   pub water : List ℕ
   pub no-cause : firstCause (jobCauses job) ≡ none
   pub starts : descriptionWater (described job) ≡ some water
+  pub steadied : startSteady (described job) water ≡ true
   pub left : (opening job) .after ≡ openedRecord (described job) water
 
 refused-done : (cause : Refusal) → Refused cause ≡ Done → ⊥
@@ -65,22 +66,23 @@ pub opened : (job : List ℕ) → (opening job) .answer ≡ Done → Opened job
 unfolding opening refusedOpening
 opened job e = causes (firstCause (jobCauses job)) refl e
   where
-    found : (o : Option (List ℕ)) → Answered
-    found none = refusedOpening StartOffCurve
-    found (some water) = record { answer = Done; after = openedRecord (described job) water }
+    found : Started → Answered
+    found (notStarted cause) = refusedOpening cause
+    found (startedWith water) = record { answer = Done; after = openedRecord (described job) water }
 
-    start : (o : Option (List ℕ)) → descriptionWater (described job) ≡ o → firstCause (jobCauses job) ≡ none →
-        (found o) .answer ≡ Done → Opened job
-    start none p q e = absurd (refused-done StartOffCurve e)
-    start (some water) p q e = record { water = water; no-cause = q; starts = p; left = rw (q, p, opening) }
+    start : (o : Started) → started (described job) ≡ o → firstCause (jobCauses job) ≡ none → (found o) .answer ≡ Done → Opened job
+    start (notStarted cause) p q e = absurd (refused-done cause e)
+    start (startedWith water) p q e =
+        let (starts, steadied) = started-parts (described job) water p in
+        record { water = water; no-cause = q; starts = starts; steadied = steadied; left = rw (q, p, opening) }
 
     causes : (o : Option Refusal) → firstCause (jobCauses job) ≡ o →
         (elim o as (λ _. Answered) [
           | some cause ↦ refusedOpening cause
-          | none ↦ found (descriptionWater (described job))
+          | none ↦ found (started (described job))
         ]) .answer ≡ Done → Opened job
     causes (some cause) q e = absurd (refused-done cause e)
-    causes none q e = start (descriptionWater (described job)) refl q e
+    causes none q e = start (started (described job)) refl q e
 
 -- ---- its record
 
@@ -105,7 +107,7 @@ module _ (d : Description) (s : Described d) (water : List ℕ) (starts : descri
   on : Starts (skeleton site) (site .solids) water
   unfolding descriptionWater
   on =
-      water-starts (skeleton site) (openingLoad site) (burdens (site .gravity) (site .solids)) (site .solids) d.header.start (givenWater d) water
+      water-starts (skeleton site) (openingLoad site) (burdens (site .gravity) (site .solids)) (site .solids) (restsOver (site .bottom) (site .topLevel) (site .bottomLevel)) d.header.start (givenWater d) water
       (burdens-length (site .gravity) (site .solids)) (given-many ∙ sym solids-many) starts
 
   -- the starting water is within its limits

@@ -18,7 +18,7 @@ use Rattle.rules.specs.declared.record.Record.{Record}
 
 module _ (site : Site) (start : ℕ) where
   -- a call on a record that stands at a state answers and leaves what the rules work out there
-  called-standing : (s : State) (r : Record) (call : Call) → Stands site start s r →
+  pub called-standing : (s : State) (r : Record) (call : Call) → Stands site start s r →
       called r call ≡ record { answer = (outcome site s call) .answer; after = withEvents r ((outcome site s call) .events) }
   unfolding called
   called-standing s r call h = rw (stands-layer site start s r h, called, h .site-is, h .state-is)

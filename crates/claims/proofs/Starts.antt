@@ -4,19 +4,23 @@ use native.Mathlib.Omega.{arith}
 use lib.Dec.{T, eqb, leb}
 use lib.IntN.{pos}
 use lib.ListN.{length}
-use mathlib.Core.Bool.{Bool, true, false}
+use mathlib.Core.Bool.{Bool, true, false, cond}
 use mathlib.Core.List.{List, [], _∷_, map}
 use mathlib.Core.Option.{Option, none, some}
-use mathlib.Core.Path.{_≡_, refl, ap, subst}
+use mathlib.Core.Path.{_≡_, refl, sym, ap, subst, _∙_}
 use Rattle.claims.proofs.Causes.{none-some}
 use Rattle.numbers.specs.Lists.{least}
 use Rattle.numbers.proofs.Searches.{passed, joined}
 use Rattle.rules.specs.Layer.{Skeleton, effectiveStress}
 use Rattle.quantities.specs.Quantities.{waterLimits}
 use Rattle.numbers.specs.Lists.{prepended}
+use Rattle.rules.specs.Job.{Description}
+use Rattle.rules.specs.Opening.{startedWith, notStarted, descriptionWater, startSteady, started}
 use Rattle.rules.specs.Start.{atMost, restingWater, lastStress, restingUnder, restingFrom, startWater}
 use Rattle.rules.specs.Step.{onCurve, allOnCurve}
 use Rattle.rules.proofs.Resting.{at-most-parts}
+use Rattle.rules.specs.declared.answers.Refusal.{Refusal}
+use Rattle.rules.specs.declared.answers.Refusal.the-variants.{StartOffCurve, StartNotSteady}
 
 -- the least that passes a test passes it
 least-passes : (test : ℕ → Bool) (count n found : ℕ) → least count n test ≡ some found → T (test found)
@@ -76,20 +80,59 @@ module _ (soil : Skeleton) (load : ℕ) where
                 joined (onCurve soil S (pos W)) (allOnCurve soil Ss (map pos more)) (under-on B S W p) (rest .on-curve);
           })
 
-  -- the water of either start is
-  pub water-starts : (Bs Ss : List ℕ) (start : ℕ) (given water : List ℕ) → length Bs ≡ length Ss → length given ≡ length Ss →
-      startWater soil Bs Ss start given load ≡ some water → Starts soil Ss water
+  -- the water of any start is
+  pub water-starts : (Bs Ss : List ℕ) (mayRest : Bool) (start : ℕ) (given water : List ℕ) → length Bs ≡ length Ss → length given ≡ length Ss →
+      startWater soil Bs Ss mayRest start given load ≡ some water → Starts soil Ss water
   unfolding startWater
-  water-starts Bs Ss start given water many n e = either (eqb start 0) e
+  water-starts Bs Ss mayRest start given water many n e = either (eqb start 1) mayRest e
     where
-      on : (c : Bool) → allOnCurve soil Ss (map pos given) ≡ c →
-          elim c as (λ _. Option (List ℕ)) [ true ↦ some given | false ↦ none ] ≡ some water → Starts soil Ss water
+      on : (c : Bool) → allOnCurve soil Ss (map pos given) ≡ c → cond c (some given) none ≡ some water → Starts soil Ss water
       on true p e = let same : given ≡ water = cc in subst (Starts soil Ss) same (record { size = n; on-curve = passed p })
       on false p e = absurd (none-some water e)
 
-      either : (c : Bool) → elim c as (λ _. Option (List ℕ)) [
-        | true ↦ elim (allOnCurve soil Ss (map pos given)) [ true ↦ some given | false ↦ none ]
-        | false ↦ restingFrom soil load Bs Ss
-      ] ≡ some water → Starts soil Ss water
-      either true e = on (allOnCurve soil Ss (map pos given)) refl e
-      either false e = resting-starts Bs Ss water many e
+      either : (rest mayRest : Bool) →
+          cond rest (cond mayRest (restingFrom soil load Bs Ss) none) (cond (allOnCurve soil Ss (map pos given)) (some given) none) ≡ some water →
+          Starts soil Ss water
+      either false mayRest e = on (allOnCurve soil Ss (map pos given)) refl e
+      either true true e = resting-starts Bs Ss water many e
+      either true false e = absurd (none-some water e)
+
+-- ---- what a description's start gives
+
+module _ (d : Description) where
+  -- 9
+  pub off-started : descriptionWater d ≡ none → started d ≡ notStarted StartOffCurve
+  unfolding started
+  off-started e = rw (e, started)
+
+  module _ (water : List ℕ) (e : descriptionWater d ≡ some water) where
+    -- 20
+    pub unsteady-started : startSteady d water ≡ false → started d ≡ notStarted StartNotSteady
+    unfolding started
+    unsteady-started s = rw (e, s, started)
+
+    -- water
+    pub steady-started : startSteady d water ≡ true → started d ≡ startedWith water
+    unfolding started
+    steady-started s = rw (e, s, started)
+
+  not-with : (cause : Refusal) (water : List ℕ) → notStarted cause ≡ startedWith water → ⊥
+  not-with cause water e = let z : _≡_ {A = ℕ} 0 1 = cc in omega arith
+
+  with-same : (found water : List ℕ) → startedWith found ≡ startedWith water → found ≡ water
+  with-same found water e = cc
+
+  -- water that neither 9 nor 20 refuses
+  pub started-parts : (water : List ℕ) → started d ≡ startedWith water → (descriptionWater d ≡ some water) × (startSteady d water ≡ true)
+  started-parts water e = found (descriptionWater d) refl
+    where
+      steadied : (found : List ℕ) → descriptionWater d ≡ some found → (c : Bool) → startSteady d found ≡ c →
+          (descriptionWater d ≡ some water) × (startSteady d water ≡ true)
+      steadied found p true s =
+          let same = with-same found water (sym (steady-started found p s) ∙ e) in
+          (p ∙ ap some same, subst (λ (w : List ℕ). startSteady d w ≡ true) same s)
+      steadied found p false s = absurd (not-with StartNotSteady water (sym (unsteady-started found p s) ∙ e))
+
+      found : (o : Option (List ℕ)) → descriptionWater d ≡ o → (descriptionWater d ≡ some water) × (startSteady d water ≡ true)
+      found none p = absurd (not-with StartOffCurve water (sym (off-started p) ∙ e))
+      found (some W) p = steadied W p (startSteady d W) refl

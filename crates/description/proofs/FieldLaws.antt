@@ -57,14 +57,14 @@ module _ (d : Description) where
   others =
       (not (eqb d.header.bottom 0) || eqb (d .header .«bottom_level») 0) &&
       heightsSound (firstPlaces d.header.elements d.solids) (firstPlaces d.header.elements d.water) && within budgetLimits d.header.budget &&
-      (eqb d.header.start 0 || all (within (from 0 to 0)) (firstPlaces d.header.elements d.water))
+      (not (eqb d.header.start 1) || all (within (from 0 to 0)) (firstPlaces d.header.elements d.water))
 
   -- as they are tested
   pub others-by : {heights budgeted dry rest : Bool} →
       heights ≡ heightsSound (firstPlaces d.header.elements d.solids) (firstPlaces d.header.elements d.water) →
       budgeted ≡ within budgetLimits d.header.budget →
       dry ≡ all (within (from 0 to 0)) (firstPlaces d.header.elements d.water) →
-      ((not (eqb d.header.bottom 0) || eqb (d .header .«bottom_level») 0) && heights && budgeted && (eqb d.header.start 0 || dry)) ≡ rest →
+      ((not (eqb d.header.bottom 0) || eqb (d .header .«bottom_level») 0) && heights && budgeted && (not (eqb d.header.start 1) || dry)) ≡ rest →
       others ≡ rest
   others-by e₁ e₂ e₃ e = rw (← e₁, ← e₂, ← e₃) e
 
@@ -74,7 +74,7 @@ module _ (d : Description) where
       rw (closed-by, all-zero)
       (reordered (within levelLimits (d .header .«top_level»)) (within levelLimits (d .header .«bottom_level»))
       (not (eqb d.header.bottom 0) || eqb (d .header .«bottom_level») 0) (heightsSound (firstPlaces d.header.elements d.solids) (firstPlaces d.header.elements d.water)) (within clockLimits d.header.end)
-      (within budgetLimits d.header.budget) (eqb d.header.start 0 || all (within (from 0 to 0)) (firstPlaces d.header.elements d.water)))
+      (within budgetLimits d.header.budget) (not (eqb d.header.start 1) || all (within (from 0 to 0)) (firstPlaces d.header.elements d.water)))
 
   -- the answer by the tests
   pub fields-answer : {top bottom ended rest : Bool} → within levelLimits (d .header .«top_level») ≡ top →

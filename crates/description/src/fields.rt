@@ -9,6 +9,7 @@ use quantities::Budget;
 use quantities::Clock;
 use quantities::Head;
 use quantities::Kind;
+use quantities::Start;
 use quantities::TestedClock;
 use quantities::TestedHead;
 use record_parts::sizes;
@@ -40,7 +41,7 @@ pub fn check_fields<'a>(header: Header, solids: &'a [u64; 128], water: &'a [u64;
     let sound = ((bottom != 0) | (header.bottom_level == 0))
         & sizes::heights_sound(elements, solids, water)
         & Budget::within(header.budget)
-        & ((start == 0) | sizes::all_within(elements, Kind::Zero, water));
+        & ((start != Start::REST) | sizes::all_within(elements, Kind::Zero, water));
     if sound {
         Fields::Within(top_level, bottom_level)
     } else {

@@ -14,6 +14,7 @@ use Rattle.claims.proofs.Causes.{cause-tried}
 use Rattle.claims.proofs.Described.{described-sound}
 use Rattle.claims.proofs.Opened.{opening-either, opened, opened-record}
 use Rattle.claims.proofs.Stands.{stands-layer}
+use Rattle.claims.proofs.Starts.{off-started, steady-started, unsteady-started}
 use Rattle.key.proofs.Layers.{ended-elements}
 use Rattle.key.specs.Water.{waterRun}
 use Rattle.laws.specs.Every.{Every}
@@ -23,10 +24,10 @@ use Rattle.numbers.specs.Arrays.{zeros, overlaid}
 use Rattle.numbers.proofs.Filled.{first-length, length-zeros, length-filled, length-overlaid, overlaid-take}
 use Rattle.result.proofs.ResultLaws.{result-length}
 use Rattle.rules.specs.Calls.{endedRun}
-use Rattle.rules.specs.Job.{firsts, seconds, described, jobSite, framingCauses, describedCauses, jobCauses}
+use Rattle.rules.specs.Job.{Description, firsts, seconds, described, jobSite, framingCauses, describedCauses, jobCauses}
 use Rattle.rules.specs.Key.{runToResult, key}
 use Rattle.rules.specs.Layer.{Site, State}
-use Rattle.rules.specs.Opening.{openedRecord, refusedOpening, descriptionWater, opening}
+use Rattle.rules.specs.Opening.{Started, startedWith, notStarted, openedRecord, refusedOpening, descriptionWater, startSteady, started, opening}
 use Rattle.rules.specs.Outcome.{refusalOf}
 use Rattle.quantities.specs.Quantities.{within, clockLimits, budgetLimits, elementLimits}
 use Rattle.rules.specs.Record.{recordSite, recordState, isLayer}
@@ -37,7 +38,7 @@ use Rattle.rules.specs.declared.answers.Answer.{Answer}
 use Rattle.rules.specs.declared.answers.Answer.the-variants.{Done, Refused}
 use Rattle.rules.specs.declared.answers.Answered.{Answered}
 use Rattle.rules.specs.declared.answers.Refusal.{Refusal}
-use Rattle.rules.specs.declared.answers.Refusal.the-variants.{StartOffCurve, ShortBuffer}
+use Rattle.rules.specs.declared.answers.Refusal.the-variants.{StartNotSteady, StartOffCurve, ShortBuffer}
 use Rattle.rules.specs.declared.record.Record.{Record}
 
 -- ---- the room for a layer's result
@@ -134,30 +135,56 @@ module _ (job : List ℕ) (done : (opening job) .answer ≡ Done) where
 
 -- ---- the numbers that the key returns
 
--- the number of each cause that opening tests is 9 at most
-abbrev pub AtMost9 : Refusal → Type 0
-AtMost9 cause = refusalNumber cause ≤ 9
+-- the number of each cause that opening tests is 9 at most, or 20
+abbrev pub OpeningCause : Refusal → Type 0
+OpeningCause cause = (refusalNumber cause ≤ 9) ⊎ (refusalNumber cause ≡ 20)
 
-causes-numbered : (job : List ℕ) → Every (λ trial. AtMost9 (trial .cause)) (jobCauses job)
+causes-numbered : (job : List ℕ) → Every (λ trial. refusalNumber (trial .cause) ≤ 9) (jobCauses job)
 unfolding jobCauses framingCauses describedCauses Every refusalNumber
 causes-numbered job = (lit≤ tt, (lit≤ tt, (lit≤ tt, (lit≤ tt, (lit≤ tt, (lit≤ tt, (lit≤ tt, (lit≤ tt, tt))))))))
 
-pub opening-numbered : (job : List ℕ) → ((cause : Refusal) × ((opening job ≡ refusedOpening cause) × AtMost9 cause)) ⊎ ((opening job) .answer ≡ Done)
-unfolding opening refusalNumber
-opening-numbered job = found (firstCause (jobCauses job)) refl (descriptionWater (described job))
+-- those of a start are 9 and 20
+start-numbered : (d : Description) (cause : Refusal) → started d ≡ notStarted cause → OpeningCause cause
+unfolding refusalNumber
+start-numbered d cause e = found (descriptionWater d) refl
   where
-    found : (first : Option Refusal) → firstCause (jobCauses job) ≡ first → (water : Option (List ℕ)) →
+    same : (a b : Refusal) → notStarted a ≡ notStarted b → a ≡ b
+    same a b e = cc
+
+    nine : OpeningCause StartOffCurve
+    nine = inl (lit≤ tt)
+
+    twenty : OpeningCause StartNotSteady
+    twenty = inr refl
+
+    with-not : (water : List ℕ) → startedWith water ≡ notStarted cause → ⊥
+    with-not water e = let z : _≡_ {A = ℕ} 0 1 = cc in omega arith
+
+    steadied : (water : List ℕ) → descriptionWater d ≡ some water → (c : Bool) → startSteady d water ≡ c → OpeningCause cause
+    steadied water p true s = absurd (with-not water (sym (steady-started d water p s) ∙ e))
+    steadied water p false s = subst OpeningCause (same StartNotSteady cause (sym (unsteady-started d water p s) ∙ e)) twenty
+
+    found : (o : Option (List ℕ)) → descriptionWater d ≡ o → OpeningCause cause
+    found none p = subst OpeningCause (same StartOffCurve cause (sym (off-started d p) ∙ e)) nine
+    found (some water) p = steadied water p (startSteady d water) refl
+
+pub opening-numbered : (job : List ℕ) → ((cause : Refusal) × ((opening job ≡ refusedOpening cause) × OpeningCause cause)) ⊎ ((opening job) .answer ≡ Done)
+unfolding opening
+opening-numbered job = found (firstCause (jobCauses job)) refl (started (described job)) refl
+  where
+    found : (first : Option Refusal) → firstCause (jobCauses job) ≡ first → (start : Started) → started (described job) ≡ start →
         let a : Answered = elim first as (λ _. Answered) [
           | some cause ↦ refusedOpening cause
-          | none ↦ elim water as (λ _. Answered) [
-            | none ↦ refusedOpening StartOffCurve
-            | some water ↦ record { answer = Done; after = openedRecord (described job) water }
+          | none ↦ elim start as (λ _. Answered) [
+            | notStarted cause ↦ refusedOpening cause
+            | startedWith water ↦ record { answer = Done; after = openedRecord (described job) water }
           ]
         ] in
-        ((cause : Refusal) × ((a ≡ refusedOpening cause) × AtMost9 cause)) ⊎ (a .answer ≡ Done)
-    found (some cause) p water = inl (cause, (refl, cause-tried AtMost9 (jobCauses job) cause (causes-numbered job) p))
-    found none p none = inl (StartOffCurve, (refl, lit≤ tt))
-    found none p (some water) = inr refl
+        ((cause : Refusal) × ((a ≡ refusedOpening cause) × OpeningCause cause)) ⊎ (a .answer ≡ Done)
+    found (some cause) p start q =
+        inl (cause, (refl, inl (cause-tried (λ c. refusalNumber c ≤ 9) (jobCauses job) cause (causes-numbered job) p)))
+    found none p (notStarted cause) q = inl (cause, (refl, start-numbered (described job) cause q))
+    found none p (startedWith water) q = inr refl
 
 run-number : (r : Record) (end budget : ℕ) (buffer : List ℕ) → (runToResult r end budget buffer) .number ≤ 10
 unfolding runToResult refusedResult refusalNumber
@@ -167,13 +194,25 @@ run-number r end budget buffer = go (ltb (length buffer) (resultSize (r .layer .
     go true = lit≤ tt
     go false = lit≤ tt
 
--- The key returns 0, or the number of one of the causes 1 to 10.
-pub key-numbers : (job buffer : List ℕ) → (key job buffer) .number ≤ 10
+-- 0, or the number of one of the causes 1 to 10 and 20
+abbrev pub KeyNumber : ℕ → Type 0
+KeyNumber n = (n ≤ 10) ⊎ (n ≡ 20)
+
+pub opening-key : (cause : Refusal) → OpeningCause cause → KeyNumber (refusalNumber cause)
+opening-key cause told = ⊎-elim (λ small. inl (omega arith)) (λ twenty. inr twenty) told
+
+pub key-most : (n : ℕ) → KeyNumber n → n ≤ 20
+key-most n told = ⊎-elim (λ small. omega arith) (λ twenty. omega arith) told
+
+-- The key returns such a number.
+pub key-numbers : (job buffer : List ℕ) → KeyNumber ((key job buffer) .number)
 unfolding refusedResult refusedOpening
 key-numbers job buffer =
     ⊎-elim
-    (λ (cause, (is, small)). rw (key-refused job buffer cause (ap (λ (a : Answered). a .answer) is)) (omega arith))
-    (λ done. rw (key-run job done buffer) (run-number ((opening job) .after) ((described job) .header .end) ((described job) .header .budget) buffer))
+    (λ (cause, (is, told)). rw (key-refused job buffer cause (ap (λ (a : Answered). a .answer) is)) (opening-key cause told))
+    (λ done.
+    rw (key-run job done buffer)
+    (inl (run-number ((opening job) .after) ((described job) .header .end) ((described job) .header .budget) buffer)))
     (opening-numbered job)
 
 -- ---- what is left of the buffer

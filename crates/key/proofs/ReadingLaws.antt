@@ -7,13 +7,13 @@ use lib.Dec.{ltb, lit≤}
 use lib.ListN.{length}
 use mathlib.Core.Bool.{Bool, true, false, cond}
 use mathlib.Core.List.{List}
-use mathlib.Core.Logic.{⊎-elim}
+use mathlib.Core.Logic.{⊎-elim, inl}
 use mathlib.Core.Option.{none, some}
 use mathlib.Core.Path.{_≡_, refl, ap, _∙_}
 use Rattle.answers.proofs.Causes.{cause-numbered}
 use Rattle.claims.proofs.Opened.{opening-either}
 use Rattle.field_data.specs.Words.{readingCount, answersOn}
-use Rattle.key.proofs.KeyLaws.{opening-numbered, opened-layer, key-refused, key-run}
+use Rattle.key.proofs.KeyLaws.{KeyNumber, opening-key, opening-numbered, opened-layer, key-refused, key-run}
 use Rattle.key.proofs.KeyLaws.{no-room as key-no-room, room-enough as key-room-enough}
 use Rattle.key.specs.Readings.{runToReadings, jobReadings}
 use Rattle.lent.proofs.Standing.{counted}
@@ -63,7 +63,7 @@ module _ (job readings buffer : List ℕ) where
   unfolding refusalOf
   readings-run done = by-answer Done done
 
--- the numbers that are returned: 0, or one of 1 to 10
+-- the numbers that are returned: 0, or one of 1 to 10 and 20
 run-numbers : (r : Record) (end budget : ℕ) (readings buffer : List ℕ) → (runToReadings r end budget readings buffer) .number ≤ 10
 unfolding refusedResult
 run-numbers r end budget readings buffer =
@@ -72,14 +72,14 @@ run-numbers r end budget readings buffer =
       | no n ↦ rw (no-room r end budget readings buffer (omega arith)) (omega arith)
     ]
 
-pub readings-numbers : (job readings buffer : List ℕ) → (jobReadings job readings buffer) .number ≤ 10
+pub readings-numbers : (job readings buffer : List ℕ) → KeyNumber ((jobReadings job readings buffer) .number)
 unfolding refusedResult refusedOpening refusalOf
 readings-numbers job readings buffer =
     ⊎-elim
-    (λ (cause, (is, small)). rw (by-answer job readings buffer (Refused cause) (ap (λ (a : Answered). a .answer) is)) (omega arith))
+    (λ (cause, (is, told)). rw (by-answer job readings buffer (Refused cause) (ap (λ (a : Answered). a .answer) is)) (opening-key cause told))
     (λ done.
     let most = run-numbers ((opening job) .after) ((described job) .header .end) ((described job) .header .budget) readings buffer in
-    rw (readings-run job readings buffer done) most)
+    rw (readings-run job readings buffer done) (inl most))
     (opening-numbered job)
 
 -- ---- by what the key returns for the same job

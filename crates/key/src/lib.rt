@@ -10,6 +10,7 @@ ghost use Rattle.rules.specs.Key.{key, runToResult};
 ghost use Rattle.quantities.specs.Quantities.{clockLimits, budgetLimits};
 ghost use Rattle.rules.specs.Record.{soilOf, layerOf, recordOf, isLayer};
 ghost use Rattle.rules.specs.declared.record.Record.{Record};
+use acceptance::record;
 use opening::Opened;
 use rules::answers::Refusal;
 use rules::job::Header;
@@ -48,7 +49,7 @@ pub fn run_to_result<'a>(
     if out.len() < result::result_size(frame.elements) {
         return result::refused(Refusal::ShortBuffer);
     }
-    let counts = opening::curve_counts(header);
+    let counts = record::curve_counts(header);
     let ended = run::run_lent(
         counts,
         frame,

@@ -1,7 +1,7 @@
 -- What sound fields say of a description: its sizes, its end and budget, and the water of its start.
 use Prim.Native.Nat.{_≤_}
 use lib.Dec.{eqb}
-use mathlib.Core.Bool.{true, _&&_, _||_}
+use mathlib.Core.Bool.{true, not, _&&_, _||_}
 use mathlib.Core.Path.{_≡_}
 use Rattle.numbers.specs.Lists.{all}
 use Rattle.numbers.proofs.Searches.{passed, both, is-true}
@@ -14,7 +14,7 @@ pub record SoundFields (d : Description) : Type 0 where
   pub sizes : sizesSound (jobSite d) (givenWater d) ≡ true
   pub end-most : d.header.end ≤ clockLimits .most
   pub budget-most : d.header.budget ≤ budgetLimits .most
-  pub dry : eqb d.header.start 0 || all (λ w. eqb w 0) (givenWater d) ≡ true
+  pub dry : not (eqb d.header.start 1) || all (λ w. eqb w 0) (givenWater d) ≡ true
 
 pub sound-fields : (d : Description) → fieldsSound d ≡ true → SoundFields d
 unfolding fieldsSound

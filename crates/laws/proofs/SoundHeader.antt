@@ -4,7 +4,7 @@ use lib.Dec.{T, leb, leb→le}
 use mathlib.Core.Bool.{true, _&&_}
 use mathlib.Core.Path.{_≡_}
 use Rattle.numbers.proofs.Searches.{passed, both}
-use Rattle.quantities.specs.Quantities.{Limits, within, flagLimits, elementLimits, curveLimits, tableLimits, gravityLimits}
+use Rattle.quantities.specs.Quantities.{Limits, within, flagLimits, startLimits, elementLimits, curveLimits, tableLimits, gravityLimits}
 use Rattle.rules.specs.Job.{headerSound}
 use Rattle.rules.specs.Record.{formSound}
 use Rattle.rules.specs.declared.job.Header.{Header}
@@ -27,7 +27,7 @@ pub record SoundHeader
   pub compressibility-kept : Kept curveLimits compressibilityPoints
   pub conductivity-kept : Kept curveLimits conductivityPoints
   pub table-kept : Kept tableLimits tablePoints
-  pub start-kept : Kept flagLimits start
+  pub start-kept : Kept startLimits start
   pub gravity-kept : Kept gravityLimits gravity
 
 pub sound-header : (top bottom elements compressibilityPoints conductivityPoints tablePoints start gravity : ℕ) →
@@ -40,9 +40,9 @@ sound-header top bottom elements compressibilityPoints conductivityPoints tableP
     let four = three && within curveLimits compressibilityPoints in
     let five = four && within curveLimits conductivityPoints in
     let six = five && within tableLimits tablePoints in
-    let seven = six && within flagLimits start in
+    let seven = six && within startLimits start in
     let (first7, gravityKept) = both seven (within gravityLimits gravity) (passed e) in
-    let (first6, startKept) = both six (within flagLimits start) first7 in
+    let (first6, startKept) = both six (within startLimits start) first7 in
     let (first5, tableKept) = both five (within tableLimits tablePoints) first6 in
     let (first4, conductivityKept) = both four (within curveLimits conductivityPoints) first5 in
     let (first3, compressibilityKept) = both three (within curveLimits compressibilityPoints) first4 in

@@ -5,7 +5,7 @@ use mathlib.Core.List.{List}
 use mathlib.Core.Option.{Option, none, some}
 use mathlib.Core.Path.{_≡_, refl, sym, ap, _∙_}
 use Rattle.acceptance.specs.Accepting.{waterStarted, acceptedBurden}
-use Rattle.acceptance.proofs.AcceptingLaws.{accepted-none, cause-accepts, header-within, off-accepts, start-accepts}
+use Rattle.acceptance.proofs.AcceptingLaws.{accepted-none, cause-accepts, header-within, unstarted-accepts, start-accepts}
 use Rattle.description.specs.Lent.{descriptionOf}
 use Rattle.job.specs.Framing.{framing}
 use Rattle.job.proofs.FramingLaws.{framed-header, framed-kept, framed-rest, unframed-first}
@@ -18,7 +18,7 @@ use Rattle.opening.specs.Opened.{openedBy, openedJob, leftDescription, l
 use Rattle.opening.specs.declared.Opened.{Opened}
 use Rattle.opening.specs.declared.Opened.the-variants.{Accepted, Refused}
 use Rattle.rules.specs.Job.{Description, countsOf, described, describedCauses}
-use Rattle.rules.specs.Opening.{accepted, acceptedWater, descriptionWater, layerCauses, openedRecord, opening, refusedOpening}
+use Rattle.rules.specs.Opening.{Started, startedWith, notStarted, started, accepted, acceptedWater, layerCauses, openedRecord, opening, refusedOpening}
 use Rattle.rules.specs.Record.{layerOf, recordOf, soilOf}
 use Rattle.rules.specs.Refusals.{firstCause}
 use Rattle.rules.specs.declared.answers.Acceptance.{Acceptance}
@@ -123,16 +123,16 @@ module _ (job : List ℕ) where
     by-cause cause f =
         by-parts refl (opened-as (cause-accepts (d job) cause (after-header ∙ f) .answers)) (rw (framed-rest job header e, f, opening))
 
-    -- none of these: 9, or a layer
-    by-start : firstCause (describedCauses (d job)) ≡ none → (water : Option (List ℕ)) → descriptionWater (d job) ≡ water →
+    -- none of these: 9 or 20, or a layer
+    by-start : firstCause (describedCauses (d job)) ≡ none → (start : Started) → started (d job) ≡ start →
         opening job ≡ openingBy (leftDescription job) (openedJob job)
     unfolding openingBy openedBy opening openedRecord waterStarted
-    by-start f none off =
-        by-parts refl (opened-as (off-accepts (d job) (after-header ∙ f) off .answers)) (rw (framed-rest job header e, f, off, opening))
-    by-start f (some water) on =
-        let a = start-accepts (d job) (after-header ∙ f) water on in
+    by-start f (notStarted cause) is =
+        by-parts refl (opened-as (unstarted-accepts (d job) (after-header ∙ f) cause is .answers)) (rw (framed-rest job header e, f, is, opening))
+    by-start f (startedWith water) is =
+        let a = start-accepts (d job) (after-header ∙ f) water is in
         by-parts (framed-left job header e) (opened-as (a .answers))
-        (rw (framed-rest job header e, f, on, opening, framed-header job header e, ← a .water-left))
+        (rw (framed-rest job header e, f, is, opening, framed-header job header e, ← a .water-left))
 
   opening-by : opening job ≡ openingBy (leftDescription job) (openedJob job)
   unfolding openingBy opening
@@ -141,7 +141,7 @@ module _ (job : List ℕ) where
       first : (header : Header) → framing job ≡ framed.Sound header → (o : Option Refusal) → firstCause (describedCauses (d job)) ≡ o →
           opening job ≡ openingBy (leftDescription job) (openedJob job)
       first header e (some cause) f = by-cause header e cause f
-      first header e none f = by-start header e f (descriptionWater (d job)) refl
+      first header e none f = by-start header e f (started (d job)) refl
 
       go : (f : Framed) → framing job ≡ f → opening job ≡ openingBy (leftDescription job) (openedJob job)
       go (framed.Refused cause) e = by-parts refl (unframed-opened job cause e) (rw (unframed-first job cause e, opening))

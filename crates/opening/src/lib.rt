@@ -3,14 +3,12 @@ ghost use lib.ListN.{length};
 ghost use mathlib.Core.Path.{_≡_};
 ghost use Rattle.job.specs.Pairs.{Blank, Pairs};
 ghost use Rattle.opening.specs.Opened.{openedJob, leftDescription, leftBurden};
-ghost use Rattle.rules.specs.Job.{countsOf};
 use job::framing;
 use job::framing::Framed;
 use job::pairs;
 use rules::answers::Acceptance;
 use rules::answers::Refusal;
 use rules::job::Header;
-use rules::record::CurveCounts;
 use rules::record::Frame;
 use rules::record::Progress;
 
@@ -72,15 +70,5 @@ pub fn open_into<'a>(
                 Acceptance::Accepted(frame, progress) => Opened::Accepted(header, frame, progress),
             }
         }
-    }
-}
-
-// How many points the curves of a header have.
-pub fn curve_counts(header: Header) -> CurveCounts
-    ensures { λ r. ⌜ r ≡ countsOf header ⌝ }
-{
-    CurveCounts {
-        compressibility: header.compressibility_points,
-        conductivity: header.conductivity_points,
     }
 }

@@ -66,6 +66,10 @@ startingWaterLimits = from 0 to 128_000_000_000
 abbrev pub flagLimits : Limits
 flagLimits = from 0 to 1
 
+-- where the water of a layer comes from: as given, at rest, or given and steady
+abbrev pub startLimits : Limits
+startLimits = from 0 to 2
+
 -- the limits of each kind that arrays hold
 abbrev pub limitsOf : Kind → Limits
 limitsOf Stress = stressLimits

@@ -2,7 +2,7 @@
 ghost use mathlib.Core.Path.{_≡_};
 ghost use Prim.Native.Nat.{_≤_};
 ghost use Rattle.numbers.specs.Interval.{Within};
-ghost use Rattle.quantities.specs.Quantities.{within, withinℤ, stressLimits, voidLimits, conductivityLimits, levelLimits, clockLimits, solidsLimits, waterLimits, stepLimits, budgetLimits, gravityLimits, elementLimits, curveLimits, tableLimits, flagLimits, startingWaterLimits, limitsOf, outflowWithin, pressureOf, from_to_};
+ghost use Rattle.quantities.specs.Quantities.{within, withinℤ, stressLimits, voidLimits, conductivityLimits, levelLimits, clockLimits, solidsLimits, waterLimits, stepLimits, budgetLimits, gravityLimits, elementLimits, curveLimits, tableLimits, flagLimits, startLimits, startingWaterLimits, limitsOf, outflowWithin, pressureOf, from_to_};
 ghost use Rattle.quantities.specs.Tested.{testedHead, testedPressure, testedVoid, testedClock};
 
 // Whether a number keeps limits.
@@ -317,6 +317,25 @@ impl Flag {
         ensures { λ r. ⌜ r ≡ within flagLimits n ⌝ }
     {
         within(Flag::LEAST, Flag::MOST, n)
+    }
+}
+
+// Where the water of a layer comes from: 0 as given, 1 at rest, 2 given and steady.
+pub struct Start(pub u64);
+
+impl Start {
+    pub const LEAST: u64 = 0;
+
+    pub const MOST: u64 = 2;
+
+    pub const REST: u64 = 1;
+
+    pub const STEADY: u64 = 2;
+
+    pub fn within(n: u64) -> bool
+        ensures { λ r. ⌜ r ≡ within startLimits n ⌝ }
+    {
+        within(Start::LEAST, Start::MOST, n)
     }
 }
 

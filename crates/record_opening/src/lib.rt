@@ -4,6 +4,7 @@ ghost use Rattle.rules.specs.Opening.{opening, openingNumbers, refusedOpening, 
 ghost use Rattle.rules.specs.Outcome.{answerNumbers};
 ghost use Rattle.rules.specs.Record.{recordOf};
 ghost use Rattle.rules.specs.declared.answers.Answer.the-variants.{Done};
+use acceptance::record;
 use opening::Opened;
 use quantities::Face;
 use quantities::Head;
@@ -102,7 +103,7 @@ pub fn open(job: &[u8]) -> Answered
         Opened::Refused(cause) => refused(cause),
         Opened::Accepted(header, frame, progress) => done(
             Soil {
-                counts: opening::curve_counts(header),
+                counts: record::curve_counts(header),
                 compressibility_void,
                 compressibility_stress,
                 conductivity_void,

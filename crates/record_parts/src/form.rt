@@ -6,6 +6,7 @@ use quantities::CurvePoints;
 use quantities::Elements;
 use quantities::Flag;
 use quantities::Gravity;
+use quantities::Start;
 use quantities::TablePoints;
 use rules::job::Header;
 
@@ -28,7 +29,7 @@ pub fn form_sound(
         & CurvePoints::within(compressibility_points as u64)
         & CurvePoints::within(conductivity_points as u64)
         & TablePoints::within(table_points as u64)
-        & Flag::within(start)
+        & Start::within(start)
         & Gravity::within(gravity)
 }
 

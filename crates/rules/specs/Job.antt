@@ -136,12 +136,12 @@ unfoldable pub givenWater : Description → List ℕ
 unfolding firstPlaces
 givenWater d = firstPlaces d.header.elements d.water
 
--- cause 5: level, end, budget, solids and water keep their limits, and in start 1 no water is given
+-- cause 5: level, end, budget, solids and water keep their limits, and only in start 1 is no water given
 unfoldable pub fieldsSound : Description → Bool
 unfolding sizesSound jobSite givenWater within all
 fieldsSound d =
     sizesSound (jobSite d) (givenWater d) && within clockLimits d.header.end && within budgetLimits d.header.budget &&
-    (eqb d.header.start 0 || all (λ w. eqb w 0) (givenWater d))
+    (not (eqb d.header.start 1) || all (λ w. eqb w 0) (givenWater d))
 
 -- the length of a job with so many elements and points
 unfoldable pub jobLength : Header → ℕ

@@ -5,6 +5,7 @@ pub mod Refusals
 pub mod Step
 pub mod Load
 pub mod Run
+pub mod Steady
 pub mod Start
 pub mod Outcome
 pub mod Tally
@@ -16,3 +17,4 @@ pub mod Result
 pub mod Key
 pub mod Program
 pub mod Specimen
+pub mod Artesian

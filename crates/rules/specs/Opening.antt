@@ -1,14 +1,16 @@
 -- Opening: from a job's bytes, or from what they describe, to a record.
 use Prim.Native.Nat.{ℕ}
+use lib.Dec.{eqb}
 use lib.IntN.{pos}
-use mathlib.Core.Bool.{not}
+use mathlib.Core.Bool.{Bool, not, cond, _||_}
 use mathlib.Core.List.{List, [], _∷_}
 use mathlib.Core.Option.{Option, none, some}
 use Rattle.numbers.specs.Arrays.{zeros, overlaid}
 use Rattle.numbers.specs.Sums.{sum}
 use Rattle.quantities.specs.Quantities.{head}
 use Rattle.rules.specs.Layer.{State, skeleton, burdens}
-use Rattle.rules.specs.Start.{startWater, openingLoad, openingState}
+use Rattle.rules.specs.Start.{restsOver, startWater, openingLoad, openingState}
+use Rattle.rules.specs.Steady.{steady}
 use Rattle.rules.specs.Outcome.{Numbers, answerNumbers}
 use Rattle.rules.specs.Refusals.{Trial, _if_, firstCause, refusalNumber}
 use Rattle.rules.specs.Record.{soilOf, layerOf, recordOf, progressOf}
@@ -17,7 +19,7 @@ use Rattle.rules.specs.declared.answers.Acceptance.{Acceptance}
 use Rattle.rules.specs.declared.answers.Answer.the-variants.{Done, Refused}
 use Rattle.rules.specs.declared.answers.Answered.{Answered}
 use Rattle.rules.specs.declared.answers.Refusal.{Refusal}
-use Rattle.rules.specs.declared.answers.Refusal.the-variants.{HeaderOutside, StartOffCurve}
+use Rattle.rules.specs.declared.answers.Refusal.the-variants.{HeaderOutside, StartOffCurve, StartNotSteady}
 use Rattle.quantities.specs.declared.Face.the-variants.{Closed}
 use Rattle.rules.specs.declared.record.Record.{Record}
 
@@ -54,20 +56,40 @@ refusedOpening cause = record { answer = Refused cause; after = blankRecord }
 
 -- the water of a description's start
 unfoldable pub descriptionWater : Description → Option (List ℕ)
-unfolding startWater burdens jobSite givenWater openingLoad
+unfolding startWater burdens jobSite givenWater openingLoad restsOver
 descriptionWater d =
     let site = jobSite d in
-    startWater (skeleton site) (burdens (site .gravity) (site .solids)) (site .solids) d.header.start (givenWater d) (openingLoad site)
+    startWater (skeleton site) (burdens (site .gravity) (site .solids)) (site .solids)
+    (restsOver (site .bottom) (site .topLevel) (site .bottomLevel)) d.header.start (givenWater d) (openingLoad site)
 
--- what opening answers and leaves: causes 1 to 8, then 9
+-- in start 2 the layer is steady with the water of its start, under the opening load
+unfoldable pub startSteady : Description → (water : List ℕ) → Bool
+unfolding steady jobSite openingState
+startSteady d water = not (eqb d.header.start 2) || steady (jobSite d) (openingState (jobSite d) water)
+
+-- what a start gives: water, or why it is refused
+pub data Started : Type 0 where
+  startedWith : (water : List ℕ) → Started
+  notStarted : (cause : Refusal) → Started
+
+-- the causes that are tested of a description's start: 9, then 20
+unfoldable pub started : Description → Started
+unfolding descriptionWater startSteady
+started d =
+    elim (descriptionWater d) [
+      | none ↦ notStarted StartOffCurve
+      | some water ↦ cond (startSteady d water) (startedWith water) (notStarted StartNotSteady)
+    ]
+
+-- what opening answers and leaves: causes 1 to 8, then those of the start
 unfoldable pub opening : List ℕ → Answered
-unfolding firstCause jobCauses refusedOpening described descriptionWater openedRecord
+unfolding firstCause jobCauses refusedOpening described started openedRecord
 opening job =
     elim (firstCause (jobCauses job)) [
       | some cause ↦ refusedOpening cause
-      | none ↦ elim (descriptionWater (described job)) [
-        | none ↦ refusedOpening StartOffCurve
-        | some water ↦ record { answer = Done; after = openedRecord (described job) water }
+      | none ↦ elim (started (described job)) [
+        | notStarted cause ↦ refusedOpening cause
+        | startedWith water ↦ record { answer = Done; after = openedRecord (described job) water }
       ]
     ]
 
@@ -81,15 +103,15 @@ unfoldable pub layerCauses : Description → List Trial
 unfolding headerSound describedCauses
 layerCauses d = (HeaderOutside if not (headerSound d.header)) ∷ describedCauses d
 
--- the numbers of a description's layer, or why there is none: those causes, then 9
+-- the numbers of a description's layer, or why there is none: those causes, then those of its start
 unfoldable pub accepted : Description → Acceptance
-unfolding firstCause layerCauses descriptionWater frameOf openingState jobSite sum
+unfolding firstCause layerCauses started frameOf openingState jobSite sum
 accepted d =
     elim (firstCause (layerCauses d)) [
       | some cause ↦ Acceptance.Refused cause
-      | none ↦ elim (descriptionWater d) [
-        | none ↦ Acceptance.Refused StartOffCurve
-        | some water ↦ Acceptance.Accepted (frameOf d.header (sum water)) (progressOf (openingState (jobSite d) water))
+      | none ↦ elim (started d) [
+        | notStarted cause ↦ Acceptance.Refused cause
+        | startedWith water ↦ Acceptance.Accepted (frameOf d.header (sum water)) (progressOf (openingState (jobSite d) water))
       ]
     ]
 
@@ -103,10 +125,10 @@ unfoldable pub acceptedNumber : Description → ℕ
 unfolding accepted acceptanceNumber
 acceptedNumber d = acceptanceNumber (accepted d)
 
--- the water of its start in its array, or, where there is none, the water as it is given
+-- the water of its start in its array, or, where that is refused, the water as it is given
 unfoldable pub startedWater : Description → List ℕ
-unfolding descriptionWater overlaid
-startedWater d = elim (descriptionWater d) [ none ↦ d.water | some water ↦ overlaid water d.water ]
+unfolding started overlaid
+startedWater d = elim (started d) [ notStarted cause ↦ d.water | startedWith water ↦ overlaid water d.water ]
 
 -- that of an accepted description; where it is refused, as it is given
 unfoldable pub acceptedWater : Description → List ℕ

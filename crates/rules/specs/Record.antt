@@ -7,7 +7,7 @@ use Rattle.numbers.specs.Arrays.{firstPlaces, overlaid}
 use Rattle.numbers.specs.Integers.{eqℤ}
 use Rattle.numbers.specs.Lists.{all}
 use Rattle.numbers.specs.Sums.{sum}
-use Rattle.quantities.specs.Quantities.{within, withinℤ, stressLimits, levelLimits, clockLimits, solidsLimits, waterLimits, gravityLimits, elementLimits, curveLimits, tableLimits, flagLimits, startingWaterLimits, outflowWithin, pressure}
+use Rattle.quantities.specs.Quantities.{within, withinℤ, stressLimits, levelLimits, clockLimits, solidsLimits, waterLimits, gravityLimits, elementLimits, curveLimits, tableLimits, flagLimits, startLimits, startingWaterLimits, outflowWithin, pressure}
 use Rattle.rules.specs.Curve.{Point, points, compressibilitySound, conductivitySound}
 use Rattle.rules.specs.Layer.{Site, State, skeleton, topPressure, bottomPressure}
 use Rattle.rules.specs.Step.{allOnCurve}
@@ -35,7 +35,7 @@ unfolding within
 formSound top bottom elements compressibilityPoints conductivityPoints tablePoints start gravity =
     within flagLimits top && within flagLimits bottom && within elementLimits elements &&
     within curveLimits compressibilityPoints && within curveLimits conductivityPoints && within tableLimits tablePoints &&
-    within flagLimits start && within gravityLimits gravity
+    within startLimits start && within gravityLimits gravity
 
 -- a closed bottom has level 0
 unfoldable pub closedAtZero : Face → (bottomLevel : ℤ) → Bool

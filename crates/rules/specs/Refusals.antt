@@ -4,7 +4,7 @@ use mathlib.Core.Bool.{Bool, true, false}
 use mathlib.Core.List.{List, [], _∷_}
 use mathlib.Core.Option.{Option, none, some}
 use Rattle.rules.specs.declared.answers.Refusal.{Refusal}
-use Rattle.rules.specs.declared.answers.Refusal.the-variants.{ShortOrUnmarked, OtherVersion, HeaderOutside, WrongLength, FieldOutside, CompressibilityCurve, ConductivityCurve, LoadTable, StartOffCurve, ShortBuffer, NoLayer, LoadOutside, StepOutside, StepTooLong, StepOffCurve, RunOutside, ShortJobBuffer, ReadingOutside, ElementOutside}
+use Rattle.rules.specs.declared.answers.Refusal.the-variants.{ShortOrUnmarked, OtherVersion, HeaderOutside, WrongLength, FieldOutside, CompressibilityCurve, ConductivityCurve, LoadTable, StartOffCurve, ShortBuffer, NoLayer, LoadOutside, StepOutside, StepTooLong, StepOffCurve, RunOutside, ShortJobBuffer, ReadingOutside, ElementOutside, StartNotSteady}
 
 -- the paper's number of each cause
 unfoldable pub refusalNumber : Refusal → ℕ
@@ -27,6 +27,7 @@ refusalNumber RunOutside = 16
 refusalNumber ShortJobBuffer = 17
 refusalNumber ReadingOutside = 18
 refusalNumber ElementOutside = 19
+refusalNumber StartNotSteady = 20
 
 -- a cause, and whether it holds
 pub record Trial : Type 0 where

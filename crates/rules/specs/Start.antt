@@ -1,10 +1,11 @@
 -- Start: where the water heights of an opened layer come from.
 use Prim.Native.Nat.{ℕ, suc, _+_}
 use lib.Dec.{leb, eqb}
-use lib.IntN.{pos}
-use mathlib.Core.Bool.{Bool, true, false}
+use lib.IntN.{ℤ, pos}
+use mathlib.Core.Bool.{Bool, true, false, cond}
 use mathlib.Core.List.{List, [], _∷_, map}
 use mathlib.Core.Option.{Option, none, some}
+use Rattle.numbers.specs.Integers.{eqℤ}
 use Rattle.numbers.specs.Lists.{least, lastOr, paired, allSome}
 use Rattle.quantities.specs.Quantities.{waterLimits}
 use Rattle.rules.specs.Curve.{Point, point}
@@ -13,6 +14,8 @@ use Rattle.rules.specs.Step.{allOnCurve}
 use Rattle.rules.specs.Load.{firstPoint}
 use Rattle.quantities.specs.declared.CurveValue.{CurveValue}
 use Rattle.quantities.specs.declared.CurveValue.the-variants.{On, Off}
+use Rattle.quantities.specs.declared.Face.{Face}
+use Rattle.quantities.specs.declared.Face.the-variants.{Closed, Drained}
 
 -- the load at opening: the table's first
 unfoldable pub openingLoad : Site → ℕ
@@ -46,14 +49,16 @@ unfoldable pub restingFrom : Skeleton → (load : ℕ) (Bs Ss : List ℕ) → Op
 unfolding allSome paired restingUnder
 restingFrom soil load Bs Ss = allSome (paired (restingUnder soil load) Bs Ss)
 
--- the water of start 0, as given, and of start 1, at rest under a load; none where cause 9 holds
-unfoldable pub startWater : Skeleton → (Bs Ss : List ℕ) (start : ℕ) (given : List ℕ) (load : ℕ) → Option (List ℕ)
+-- start 1 is only for a closed bottom, or one at the top's level
+unfoldable pub restsOver : (bottom : Face) (topLevel bottomLevel : ℤ) → Bool
+restsOver Closed topLevel bottomLevel = true
+restsOver (Drained held) topLevel bottomLevel = eqℤ bottomLevel topLevel
+
+-- the water of start 1, at rest under a load, and of the starts 0 and 2, as given; none where cause 9 holds
+unfoldable pub startWater : Skeleton → (Bs Ss : List ℕ) (mayRest : Bool) (start : ℕ) (given : List ℕ) (load : ℕ) → Option (List ℕ)
 unfolding allOnCurve restingFrom
-startWater soil Bs Ss start given load =
-    elim (eqb start 0) [
-      | true ↦ elim (allOnCurve soil Ss (map pos given)) [ true ↦ some given | false ↦ none ]
-      | false ↦ restingFrom soil load Bs Ss
-    ]
+startWater soil Bs Ss mayRest start given load =
+    cond (eqb start 1) (cond mayRest (restingFrom soil load Bs Ss) none) (cond (allOnCurve soil Ss (map pos given)) (some given) none)
 
 -- the state of a layer just opened with some water
 unfoldable pub openingState : Site → (water : List ℕ) → State

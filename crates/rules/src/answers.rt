@@ -23,6 +23,7 @@ pub enum Refusal {
     ShortJobBuffer,
     ReadingOutside,
     ElementOutside,
+    StartNotSteady,
 }
 
 // Why a run stopped.

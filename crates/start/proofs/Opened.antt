@@ -3,7 +3,7 @@ use Prim.Native.Nat.{ℕ, _<_}
 use lib.Dec.{eqb}
 use lib.IntN.{pos}
 use lib.ListN.{getD}
-use mathlib.Core.Bool.{Bool, true, false}
+use mathlib.Core.Bool.{Bool, true, false, cond}
 use mathlib.Core.List.{List, map}
 use mathlib.Core.Option.{Option, none, some}
 use mathlib.Core.Path.{_≡_, refl, sym, ap, _∙_}
@@ -24,21 +24,25 @@ burdens-in g n solids burden same =
     tabulated n (λ j. getD burden j 0) (burdens g (firstPlaces n solids)) 0
     (burdens-length g (firstPlaces n solids) ∙ length-tabulate n (λ j. getD solids j 0)) (λ j h. sym (same j h))
 
-module _ (soil : Skeleton) (Bs Ss : List ℕ) (start : ℕ) (given : List ℕ) (load : ℕ) where
-  -- start 0: as given, where all of it is on the curve
-  pub given-start : eqb start 0 ≡ true →
-      startWater soil Bs Ss start given load ≡ allOrNone (allOnCurve soil Ss (map pos given)) given
+module _ (soil : Skeleton) (Bs Ss : List ℕ) (mayRest : Bool) (start : ℕ) (given : List ℕ) (load : ℕ) where
+  -- the starts 0 and 2: as given, where all of it is on the curve
+  pub given-start : eqb start 1 ≡ false →
+      startWater soil Bs Ss mayRest start given load ≡ allOrNone (allOnCurve soil Ss (map pos given)) given
   unfolding startWater allOrNone
   given-start e = rw (e, startWater) (go (allOnCurve soil Ss (map pos given)))
     where
-      go : (on : Bool) → _≡_ {A = Option (List ℕ)} (elim on [ true ↦ some given | false ↦ none ]) (allOrNone on given)
+      go : (on : Bool) → _≡_ {A = Option (List ℕ)} (cond on (some given) none) (allOrNone on given)
       go true = refl
       go false = refl
 
-  -- start 1: at rest, where every element is
-  pub resting-start : eqb start 0 ≡ false → startWater soil Bs Ss start given load ≡ restingFrom soil load Bs Ss
+  -- start 1: at rest, where every element is, and none over another level
+  pub resting-start : eqb start 1 ≡ true → mayRest ≡ true → startWater soil Bs Ss mayRest start given load ≡ restingFrom soil load Bs Ss
   unfolding startWater
-  resting-start e = rw (e, startWater)
+  resting-start e over = rw (e, over, startWater)
+
+  pub unrested-start : eqb start 1 ≡ true → mayRest ≡ false → startWater soil Bs Ss mayRest start given load ≡ none
+  unfolding startWater
+  unrested-start e over = rw (e, over, startWater)
 
 -- the array of resting water, where every element rests
 pub resting-array : (soil : Skeleton) (load : ℕ) (Bs Ss water start after : List ℕ) → restingFrom soil load Bs Ss ≡ some water →

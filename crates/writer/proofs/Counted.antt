@@ -2,7 +2,7 @@
 use Prim.Native.Nat.{ℕ, _+_, _*_, _<_}
 use lib.Dec.{eqb}
 use lib.ListN.{getD}
-use mathlib.Core.Bool.{not, _&&_, _||_}
+use mathlib.Core.Bool.{cond, not, _&&_, _||_}
 use mathlib.Core.List.{List, [], _∷_, _++_}
 use mathlib.Core.Option.{none, some}
 use mathlib.Core.Path.{_≡_, refl, sym, ap}
@@ -16,12 +16,13 @@ use Rattle.rules.specs.Curve.{points, point, compressibilitySound, conductivity
 use Rattle.rules.specs.Job.{Description, described, describedCauses, fieldsSound, firsts, frameOf, givenWater, headerLength, headerSound, jobSite, pairLength, seconds}
 use Rattle.rules.specs.Layer.{skeleton, burdens}
 use Rattle.rules.specs.Load.{tableSound}
-use Rattle.rules.specs.Opening.{accepted, descriptionWater, layerCauses}
+use Rattle.rules.specs.Opening.{Started, startedWith, notStarted, accepted, descriptionWater, layerCauses, startSteady, started}
 use Rattle.rules.specs.Record.{progressOf, sizesSound}
 use Rattle.rules.specs.Refusals.{_if_, firstCause}
-use Rattle.rules.specs.Start.{openingLoad, openingState, startWater}
+use Rattle.rules.specs.Start.{openingLoad, openingState, restsOver, startWater}
+use Rattle.rules.specs.Steady.{steady}
 use Rattle.rules.specs.declared.answers.Acceptance.{Acceptance}
-use Rattle.rules.specs.declared.answers.Refusal.the-variants.{HeaderOutside, FieldOutside, CompressibilityCurve, ConductivityCurve, LoadTable, StartOffCurve}
+use Rattle.rules.specs.declared.answers.Refusal.the-variants.{HeaderOutside, FieldOutside, CompressibilityCurve, ConductivityCurve, LoadTable, StartNotSteady, StartOffCurve}
 use Rattle.writer.specs.RoundTrips.{upTo, upToCounts}
 use Rattle.writer.specs.Writing.{headerBytes, jobBytes, pairBytes, pairsBytes}
 
@@ -103,7 +104,7 @@ module _ (d e : Description) (header : e.header ≡ d.header) (site : jobSite e 
   unfolding fieldsSound
   fields-alike = λ i.
       sizesSound (site i) (given i) && within clockLimits ((header i) .end) && within budgetLimits ((header i) .budget) &&
-      (eqb ((header i) .start) 0 || all (λ w. eqb w 0) (given i))
+      (not (eqb ((header i) .start) 1) || all (λ w. eqb w 0) (given i))
 
   causes-alike : layerCauses e ≡ layerCauses d
   unfolding layerCauses describedCauses
@@ -117,16 +118,29 @@ module _ (d e : Description) (header : e.header ≡ d.header) (site : jobSite e 
   water-alike : descriptionWater e ≡ descriptionWater d
   unfolding descriptionWater
   water-alike = λ i.
-      startWater (skeleton (site i)) (burdens ((site i) .gravity) ((site i) .solids)) ((site i) .solids) ((header i) .start) (given i) (openingLoad (site i))
+      startWater (skeleton (site i)) (burdens ((site i) .gravity) ((site i) .solids)) ((site i) .solids)
+      (restsOver ((site i) .bottom) ((site i) .topLevel) ((site i) .bottomLevel)) ((header i) .start) (given i) (openingLoad (site i))
+
+  steady-alike : (water : List ℕ) → startSteady e water ≡ startSteady d water
+  unfolding startSteady
+  steady-alike water = λ i. not (eqb ((header i) .start) 2) || steady (site i) (openingState (site i) water)
+
+  started-alike : started e ≡ started d
+  unfolding started
+  started-alike = λ i.
+      elim (water-alike i) as (λ _. Started) [
+        | none ↦ notStarted StartOffCurve
+        | some water ↦ cond (steady-alike water i) (startedWith water) (notStarted StartNotSteady)
+      ]
 
   accepted-alike : accepted e ≡ accepted d
   unfolding accepted
   accepted-alike = λ i.
       elim (firstCause (causes-alike i)) as (λ _. Acceptance) [
         | some cause ↦ Acceptance.Refused cause
-        | none ↦ elim (water-alike i) as (λ _. Acceptance) [
-          | none ↦ Acceptance.Refused StartOffCurve
-          | some water ↦ Acceptance.Accepted (frameOf (header i) (sum water)) (progressOf (openingState (site i) water))
+        | none ↦ elim (started-alike i) as (λ _. Acceptance) [
+          | notStarted cause ↦ Acceptance.Refused cause
+          | startedWith water ↦ Acceptance.Accepted (frameOf (header i) (sum water)) (progressOf (openingState (site i) water))
         ]
       ]
 
@@ -139,8 +153,8 @@ module _ (d : Description) where
   pub causes-kept : layerCauses (upToCounts d) ≡ layerCauses d
   causes-kept = causes-alike d (upToCounts d) (kept-header) (site-kept d) (given-kept d)
 
-  pub water-kept : descriptionWater (upToCounts d) ≡ descriptionWater d
-  water-kept = water-alike d (upToCounts d) (kept-header) (site-kept d) (given-kept d)
+  pub started-kept : started (upToCounts d) ≡ started d
+  started-kept = started-alike d (upToCounts d) (kept-header) (site-kept d) (given-kept d)
 
   pub accepted-kept : accepted (upToCounts d) ≡ accepted d
   accepted-kept = accepted-alike d (upToCounts d) (kept-header) (site-kept d) (given-kept d)

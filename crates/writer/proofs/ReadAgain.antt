@@ -5,10 +5,11 @@ use borrow.Author.Tests.{eq-eqb, le-ltb}
 use lib.ListN.{length}
 use mathlib.Core.Bool.{true, false}
 use mathlib.Core.List.{List, [], _++_, append-assoc, append-nil}
-use mathlib.Core.Option.{Option, none, some}
+use mathlib.Core.Option.{none}
 use mathlib.Core.Path.{_≡_, refl, sym, ap, _∙_}
-use Rattle.acceptance.proofs.AcceptingLaws.{accepted-none, header-within, off-accepts, refused-accepted}
+use Rattle.acceptance.proofs.AcceptingLaws.{accepted-none, header-within, unstarted-accepts, refused-accepted}
 use Rattle.acceptance.proofs.SoundDescription.{fields, heights-kept, levels-kept}
+use Rattle.claims.proofs.Starts.{started-parts}
 use Rattle.description.proofs.Checking.{none-tests}
 use Rattle.job.specs.Framing.{framing}
 use Rattle.job.specs.declared.framing.Framed.the-variants.{Sound}
@@ -16,19 +17,18 @@ use Rattle.job.proofs.FramingLaws.{all-passed, framed-rest, isShort, isOther, i
 use Rattle.numbers.specs.Bytes.{field}
 use Rattle.rules.proofs.Sound.{compressible, conductive}
 use Rattle.rules.specs.Job.{Description, described, describedCauses, headerLength, headerSound, jobCauses, jobLength, jobSite, marked, pairLength}
-use Rattle.rules.specs.Opening.{accepted, descriptionWater, layerCauses, openedRecord, opening}
+use Rattle.rules.specs.Opening.{Started, startedWith, notStarted, accepted, layerCauses, openedRecord, opening, started}
 use Rattle.rules.specs.Refusals.{firstCause}
 use Rattle.rules.specs.declared.answers.Acceptance.the-variants.{Accepted}
 use Rattle.rules.specs.declared.answers.Answer.the-variants.{Done}
 use Rattle.rules.specs.declared.answers.Answered.{Answered}
-use Rattle.rules.specs.declared.answers.Refusal.the-variants.{StartOffCurve}
 use Rattle.rules.specs.declared.job.Header.{Header}
 use Rattle.rules.specs.declared.record.Frame.{Frame}
 use Rattle.rules.specs.declared.record.Progress.{Progress}
 use Rattle.table.proofs.Laws.{tabled}
 use Rattle.writer.specs.RoundTrips.{ReadAgain, upToCounts}
 use Rattle.writer.specs.Writing.{headerBytes, jobBytes, pairsBytes}
-use Rattle.writer.proofs.Counted.{causes-kept, water-kept}
+use Rattle.writer.proofs.Counted.{causes-kept, started-kept}
 use Rattle.writer.proofs.Fields.{header-again, marked-again, pairs-again, unused-again, version-again}
 use Rattle.writer.proofs.Stores.{compressibility-length, conductivity-length, elements-length, header-length, job-length, throughCompressibility, throughConductivity, throughElements}
 use Rattle.writer.proofs.WritingLaws.{accepted-header}
@@ -180,25 +180,25 @@ module _ (d : Description) {frame : Frame} {progress : Progress} (is : accepted 
 
   -- ---- so they are opened with the water of the description's start
 
-  started : (water : List ℕ) × (descriptionWater d ≡ some water)
-  started = go (descriptionWater d) refl
+  starts : (water : List ℕ) × (started d ≡ startedWith water)
+  starts = go (started d) refl
     where
-      go : (o : Option (List ℕ)) → descriptionWater d ≡ o → (water : List ℕ) × (descriptionWater d ≡ some water)
-      go (some water) e = (water, e)
-      go none e = absurd (refused-accepted StartOffCurve frame progress (off-accepts d no-cause e .answers ∙ is))
+      go : (o : Started) → started d ≡ o → (water : List ℕ) × (started d ≡ startedWith water)
+      go (startedWith water) e = (water, e)
+      go (notStarted cause) e = absurd (refused-accepted cause frame progress (unstarted-accepts d no-cause cause e .answers ∙ is))
 
-  opens : (water : List ℕ) → descriptionWater d ≡ some water → opening job ≡ record { answer = Done; after = openedRecord (described job) water }
+  opens : (water : List ℕ) → started d ≡ startedWith water → opening job ≡ record { answer = Done; after = openedRecord (described job) water }
   unfolding opening
-  opens water e = rw (none-holds, ap descriptionWater described-again ∙ water-kept d ∙ e, opening)
+  opens water e = rw (none-holds, ap started described-again ∙ started-kept d ∙ e, opening)
 
   pub read-again : ReadAgain d job
   read-again =
-      let (water, e) = started in
+      let (water, e) = starts in
       let opened = opens water e in
       record {
         described-again = described-again;
         accepted-again = ap (λ (a : Answered). a .answer) opened;
         water = water;
-        started-again = e;
+        started-again = started-parts d water e .0;
         opened-again = ap (λ (a : Answered). a .after) opened ∙ ap (λ (e : Description). openedRecord e water) described-again;
       }

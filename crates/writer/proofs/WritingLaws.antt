@@ -20,7 +20,7 @@ use Rattle.writer.specs.Writing.{jobBytes, refusedWriting, writing}
 use Rattle.writer.specs.declared.Written.the-variants.{Length}
 
 module _ (d : Description) (buffer : List ℕ) where
-  -- one of the causes 3 and 5 to 9
+  -- one of the causes 3, 5 to 9 and 20
   pub cause-writes : {cause : Refusal} → accepted d ≡ Refused cause → writing d buffer ≡ refusedWriting cause buffer
   unfolding writing
   cause-writes e = rw (e, writing)

@@ -9,6 +9,7 @@ use mathlib.Core.List.{List, [], _∷_, _++_}
 use mathlib.Core.Path.{_≡_, sym, ap, _∙_}
 use Rattle.acceptance.proofs.AcceptingLaws.{header-within, start-accepts}
 use Rattle.claims.proofs.Opened.{opened}
+use Rattle.claims.proofs.Starts.{steady-started}
 use Rattle.job.specs.Framing.{framing}
 use Rattle.job.specs.declared.framing.Framed.the-variants.{Sound}
 use Rattle.job.proofs.FramingLaws.{framed-kept, framed-length, framed-rest, long, mark-there, none-framed, tests, unused-zero, version-there}
@@ -132,4 +133,4 @@ module _ (job : List ℕ) (are : AreBytes job) where
     accepted-again =
         let o = opened job done in
         let none-first = header-within d (framed-kept job h framed) ∙ sym (framed-rest job h framed) ∙ o .no-cause in
-        (_, _, sym (start-accepts d none-first (o .water) (o .starts) .answers))
+        (_, _, sym (start-accepts d none-first (o .water) (steady-started d (o .water) (o .starts) (o .steadied)) .answers))

@@ -58,7 +58,7 @@ pub record Writing : Type 0 where
 abbrev pub refusedWriting : Refusal → (buffer : List ℕ) → Writing
 refusedWriting cause buffer = record { answer = Refused cause; buffer = buffer }
 
--- refused for the causes 3 and 5 to 9, then for 17; otherwise the job's bytes in the first places, and their length
+-- refused for the causes 3, 5 to 9 and 20, then for 17; otherwise the job's bytes in the first places, and their length
 unfoldable pub writing : Description → (buffer : List ℕ) → Writing
 unfolding accepted jobLength jobBytes overlaid
 writing d buffer =

@@ -18,7 +18,7 @@ pub enum Written {
     Refused(Refusal),
 }
 
-// Writes the job of a description at the beginning of a buffer: refused for the causes 3 and 5 to 9, then 17, and the buffer is as
+// Writes the job of a description at the beginning of a buffer: refused for the causes 3, 5 to 9 and 20, then 17, and the buffer is as
 // it was; bytes past the job are as they were. The water is written as it is given, whatever the start. What is written is
 // read again, and what was read is written again.
 pub fn write_job<'a>(

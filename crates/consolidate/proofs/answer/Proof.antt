@@ -2,7 +2,7 @@ use native.Mathlib.Omega.{arith}
 use lib.ListN.{length}
 use mathlib.Core.Path.{_≡_, sym, ap, _∙_}
 use Rattle.consolidate.proofs.Program.{whole, elements-few, room-is, result-written, refusal-written}
-use Rattle.key.proofs.KeyLaws.{key-numbers}
+use Rattle.key.proofs.KeyLaws.{key-most, key-numbers}
 use Rattle.rules.specs.Job.{described}
 use Rattle.rules.specs.Key.{key}
 use Rattle.rules.specs.Result.{resultSize, resultMost, resultSize}
@@ -27,7 +27,7 @@ refused-line-requires c κs =
     let k = c .before .before .before .before in
     let s = k .before .before .before .before in
     let room = room-of k in
-    (rw (k .consolidation-key .ensures .0) (omega (arith, key-numbers (s .args .job .now) (s .args .out .now))), omega (arith, room, kept (c .before .before .before)))
+    (rw (k .consolidation-key .ensures .0) (omega (arith, key-most _ (key-numbers (s .args .job .now) (s .args .out .now)))), omega (arith, room, kept (c .before .before .before)))
 
 same-length : tie.Need-same-length
 same-length c = search needs

@@ -1,6 +1,7 @@
 use borrow.Author.Needs.{needs}
 use native.Mathlib.Omega.{arith}
 use mathlib.Core.Path.{refl}
+use Rattle.key.proofs.KeyLaws.{key-most}
 use Rattle.key.proofs.ReadingLaws.{readings-numbers}
 use Rattle.piezometer.proofs.Answering.{answers-written, refusal-written}
 use Rattle.piezometer.proofs.answer_words.Statement.{statement}
@@ -13,7 +14,7 @@ refused-line-requires : tie.Need-refused-line-requires
 refused-line-requires c κs =
     let k = c .before .before .before .before in
     let s = k .before .before .before .before .before .before in
-    let few = readings-numbers (s .args .job .now) (s .args .readings .now) (s .args .answers .now) in
+    let few = key-most _ (readings-numbers (s .args .job .now) (s .args .readings .now) (s .args .answers .now)) in
     (rw (k .consolidation-readings .ensures .0) (omega arith), search needs)
 
 same-length : tie.Need-same-length
