@@ -24,7 +24,8 @@
  *    8    1   C1, points of the compressibility curve, 2 to 64
  *    9    1   C2, points of the conductivity curve, 2 to 64
  *   10    1   T, points of the load table, 1 to 64
- *   11    1   start: 0 with the water given, 1 at rest under the first load of the table
+ *   11    1   start: 0 with the water given; 1 at rest under the first load of the table, for a closed bottom or one
+ *             whose level is the top's; 2 with the water given, and steady under the first load of the table
  *   12    2   specific gravity of the solids, 1,000 to 5,000
  *   14    2   0
  *   16    8   top level: how high the water over the layer stands above the layer's base, 0 to 200,000,000,000 nm
@@ -38,6 +39,9 @@
  *             C2 pairs: void ratio, in the same limits, rising; conductivity, 1 to 1,000,000,000 fm/s, never
  *             falling. The void ratios of the first curve lie within those of the second.
  *             T pairs: time, 0 for the first and rising, at most 3,000,000,000 s; load, 0 to 2,000,000,000 mPa
+ *
+ * A layer is steady when the water that passes upward through all N + 1 faces in 1,000 s differs by at most 1 nm
+ * between any two of them. Nothing passes through a closed face; upward through the bottom passes what enters there.
  *
  * Each number of a pair has 8 bytes. A job has 48 + 16 x (N + C1 + C2 + T) bytes. The load between two points of
  * the table goes straight from one to the other; after the last point it stays.
@@ -77,7 +81,7 @@
  *    3    1   C1, points of the compressibility curve
  *    4    1   C2, points of the conductivity curve
  *    5    1   T, points of the load table
- *    6    1   start: 0 with the water given, 1 at rest under the first load of the table
+ *    6    1   start: 0 with the water given, 1 at rest and 2 steady under the first load of the table
  *    7    1   specific gravity of the solids
  *    8    1   top level
  *    9    1   bottom level; 0 if the bottom is closed
@@ -180,8 +184,8 @@ enum {
     ((size_t)48 + (size_t)16 * ((size_t)(elements) + (size_t)(curve1) + (size_t)(curve2) + (size_t)(table)))
 #define CONSOLIDATION_RESULT_BYTES(elements) ((size_t)56 + (size_t)40 * (size_t)(elements))
 
-/* Why a key, a job or an answer is withheld. Causes are tested in the order of their numbers, but 19 before 18, and
- * the first that holds is the answer. */
+/* Why a key, a job or an answer is withheld. Causes are tested in the order of their numbers, but 20 straight after 9
+ * and 19 before 18, and the first that holds is the answer. */
 enum {
     CONSOLIDATION_DONE = 0,               /* no cause: the result is written */
     CONSOLIDATION_NO_JOB = 1,             /* fewer than 48 bytes, or they do not begin with LSC */
@@ -198,13 +202,15 @@ enum {
                                              that fall, or void ratios of the first curve that are not covered */
     CONSOLIDATION_BAD_LOAD_TABLE = 8,     /* a point outside its limits, a first time other than 0, or times that do
                                              not rise */
-    CONSOLIDATION_BAD_START = 9,          /* start 0: an element's void ratio is off the compressibility curve;
-                                             start 1: the curve has no state of rest for an element */
+    CONSOLIDATION_BAD_START = 9,          /* start 0 or 2: an element's void ratio is off the compressibility curve;
+                                             start 1: the curve has no state of rest for an element, or the bottom
+                                             is drained and its level is not the top's */
     CONSOLIDATION_SHORT_RESULT = 10,      /* result_length is less than the result has; of readings, answers_length
                                              is less than the answers need */
     CONSOLIDATION_SHORT_JOB = 17,         /* job_length is less than the job has */
     CONSOLIDATION_BAD_READING = 18,       /* a reading is not finite, or above 2,000 kPa or 200 m in size */
-    CONSOLIDATION_BAD_ELEMENT = 19        /* the element of a reading is not 1 to N */
+    CONSOLIDATION_BAD_ELEMENT = 19,       /* the element of a reading is not 1 to N */
+    CONSOLIDATION_NOT_STEADY = 20         /* start 2: the layer is on the curve but not steady */
 };
 
 /* Byte 5 of a result. */
@@ -222,8 +228,8 @@ enum {
  * pointer is kept.
  *
  * Returns 0 when the result is written: then its 56 + 40 x N bytes are, and those after it are as they were. Any
- * stop counts as written, so look at byte 5. Otherwise it returns the number of the cause, 1 to 10, and all of
- * `result` is as it was. No other number is returned.
+ * stop counts as written, so look at byte 5. Otherwise it returns the number of the cause, 1 to 10 or 20, and all
+ * of `result` is as it was. No other number is returned.
  *
  * No memory is allocated and no state is kept from one call to the next. The function is re-entrant: threads may
  * call it at the same time, each with a result of its own. It uses less than 16 KiB of stack. A call takes time at
@@ -251,8 +257,8 @@ uint32_t consolidation_key(const uint8_t *job, size_t job_length, uint8_t *resul
  *
  * Returns the length of the job, which is at least 144, when it is written: then so many bytes of `job` are, and
  * those after them are as they were. Otherwise it returns the number of the cause, and all of `job` is as it was: 3,
- * 5, 6, 7, 8 or 9, by the tests that `consolidation_key` makes, and last 17 where `job_length` is less than the job
- * has. No other number is returned, so one below CONSOLIDATION_JOB_HEAD is a cause.
+ * 5, 6, 7, 8, 9 or 20, by the tests that `consolidation_key` makes, and last 17 where `job_length` is less than the
+ * job has. No other number is returned, so one below CONSOLIDATION_JOB_HEAD is a cause.
  *
  * Opening accepts every job that is written. The water is written as it is given, never as the start finds it, so
  * writing what an accepted job says gives its bytes again.
@@ -284,8 +290,8 @@ uint64_t consolidation_job(const uint64_t *description, size_t words, uint8_t *j
  *
  * Returns 0 when the answers are written, one after the other in the order of the readings: those words are, and the
  * ones after them are as they were. Each reading is answered or refused by itself. Otherwise it returns the number of
- * the cause, and all of `answers` is as it was: 1 to 9, by the tests that `consolidation_key` makes, and last 10. No
- * other number is returned.
+ * the cause, and all of `answers` is as it was: 1 to 9 or 20, by the tests that `consolidation_key` makes, and last
+ * 10. No other number is returned.
  *
  * Memory, state and threads are as for the key; it uses less than 24 KiB of stack. It takes the time of the key,
  * and for each reading the same time whatever N is.

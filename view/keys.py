@@ -27,11 +27,13 @@ REFUSALS = {
     6: "the compressibility curve is outside its limits, or its stresses do not rise or its void ratios do not fall",
     7: "the conductivity curve is outside its limits or out of order, or does not cover the compressibility curve",
     8: "the load table is outside its limits, does not begin at time 0, or its times do not rise",
-    9: "an element has no start on the compressibility curve",
+    9: "an element has no start on the compressibility curve, or a start at rest is over a bottom whose level is not "
+       "the top's",
     10: "the buffer is shorter than the result",
     17: "the buffer is shorter than the job",
     18: "the reading is not finite, or above 2,000 kPa or 200 m in size",
     19: "the layer has no such element: they are 1 to N",
+    20: "the start is not steady: flows of 1,000 s differ by more than 1 nm between two faces",
 }
 
 

@@ -10,7 +10,7 @@ from keys import NoAnswer, Refusal, read_refusal, written
 from layer_units import KINDS
 
 CLOSED, DRAINED = 0, 1
-GIVEN, AT_REST = 0, 1
+GIVEN, AT_REST, STEADY = 0, 1, 2
 ELEMENT_PLACES, POINT_PLACES = 128, 64
 JOB_HEAD, JOB_PAIR = 48, 16
 COUNTED = ("elements", "compressibility", "conductivity", "load")
@@ -82,7 +82,7 @@ def read_job(job: bytes) -> Union[Layer, Refusal]:
     version, top, bottom, *counts, start, gravity, spare = struct.unpack_from("<H7BHH", job, 3)
     if version != 1:
         return Refusal(2)
-    if top > DRAINED or bottom > DRAINED or start > AT_REST or spare:
+    if top > DRAINED or bottom > DRAINED or start > STEADY or spare:
         return Refusal(3)
     if len(job) != JOB_HEAD + JOB_PAIR * sum(counts):
         return Refusal(3 if header_outside(counts, gravity) else 4)

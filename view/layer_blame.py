@@ -6,8 +6,9 @@ import operator
 from typing import Callable, Iterator, List, NamedTuple, Optional, Sequence
 
 from keys import Refusal
-from layer import AT_REST, CLOSED, Layer, header_outside
+from layer import AT_REST, CLOSED, STEADY, Layer, header_outside
 from layer_units import KILOPASCAL, KINDS, METRE, RATIO, SECOND, amount, decimal, limits
+from seepage import APART, Ground, apart, carried, face_name
 
 
 class Order(NamedTuple):
@@ -28,6 +29,7 @@ class Column(NamedTuple):
 RISING = Order(operator.lt, "does not rise above")
 FALLING = Order(operator.gt, "does not fall below")
 NEVER_FALLING = Order(operator.le, "falls below")
+FINDS = "./kufandra steady looks for steady water heights"
 
 
 def outside(key: str, number: int, where: str = "") -> Iterator[str]:
@@ -95,14 +97,12 @@ def table_faults(layer: Layer) -> Iterator[str]:
     yield from point_faults("load", [Column(layer.time_key, layer.times, RISING), Column("load_kPa", layer.loads)])
 
 
-def carried(layer: Layer) -> List[int]:
-    """The stress that each element carries at rest: the first load, and the weight of what is above its middle."""
-    weights = [solids * (layer.gravity - 1_000) * 9_810 // 10**9 for solids in layer.solids]
-    return [layer.loads[0] + sum(weights[at + 1:]) + weight // 2 for at, weight in enumerate(weights)]
-
-
 def rest_faults(layer: Layer) -> Iterator[str]:
-    """Cause 9 at rest: an element that carries less than the first curve's first stress, or more than its last."""
+    """Cause 9 at rest: a bottom at another level than the top; an element that carries less than the first curve's
+    first stress, or more than its last."""
+    if layer.bottom != CLOSED and layer.bottom_level != layer.top_level:
+        yield "start: a layer at rest has a closed bottom or one at the top's level, but bottom_level_m is %s and " \
+            "top_level_m is %s; %s" % (amount(layer.bottom_level, METRE), amount(layer.top_level, METRE), FINDS)
     first, last = layer.stresses[0], layer.stresses[-1]
     for place, stress in enumerate(carried(layer), 1):
         if not first <= stress <= last:
@@ -123,8 +123,21 @@ def start_faults(layer: Layer) -> Iterator[str]:
                 % (place, decimal(void, RATIO), decimal(layer.voids[-1], RATIO), decimal(layer.voids[0], RATIO))
 
 
+def steady_faults(layer: Layer) -> Iterator[str]:
+    """Cause 20: the faces between which the flows of 1,000 s differ most, as they are reckoned here."""
+    ground = Ground(layer)
+    if layer.start != STEADY or not ground.on_curve(layer.water):
+        return
+    flows = ground.flows(layer.water)
+    if apart(flows) > APART:
+        least, most = flows.index(min(flows)), flows.index(max(flows))
+        yield "start: by this script's reckoning the upward flows differ most between %s, %s nm, and %s, %s nm; %s" \
+            % (face_name(least, len(ground)), format(flows[least], ","), face_name(most, len(ground)),
+               format(flows[most], ","), FINDS)
+
+
 FAULTS = {3: header_faults, 5: field_faults, 6: compressibility_faults, 7: conductivity_faults, 8: table_faults,
-          9: start_faults}
+          9: start_faults, 20: steady_faults}
 
 
 def refusal_words(layer: Layer, refusal: Refusal) -> str:

@@ -4,7 +4,7 @@ from __future__ import annotations
 
 from typing import Dict, List, Sequence
 
-from layer import DRAINED, GIVEN, Layer
+from layer import AT_REST, DRAINED, Layer
 from layer_text import FACES, STARTS
 from layer_units import KINDS, TIMES, decimal
 
@@ -56,7 +56,7 @@ def element_lines(layer: Layer) -> List[str]:
     """The elements: a column of equal numbers as one with a count. A start at rest has no water unless the layer gives
     it some."""
     columns = {"solids_m": layer.solids}
-    if layer.start == GIVEN or any(layer.water):
+    if layer.start != AT_REST or any(layer.water):
         columns["water_m"] = layer.water
     equal = [key for key, column in columns.items() if len(set(column)) == 1]
     if not equal and len(columns) == 2:

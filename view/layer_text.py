@@ -9,13 +9,13 @@ from decimal import Decimal, InvalidOperation
 from typing import Dict, List, NamedTuple, Sequence, Tuple, Union
 
 from keys import counted, job_bytes
-from layer import AT_REST, CLOSED, DRAINED, ELEMENT_PLACES, GIVEN, Layer
+from layer import AT_REST, CLOSED, DRAINED, ELEMENT_PLACES, GIVEN, STEADY, Layer
 from layer_units import END_KEYS, KINDS, TIME_KEYS, BadText, OutOfReach, shown, whole
 
 Values = Dict[str, object]
 
 FACES = {"closed": CLOSED, "drained": DRAINED}
-STARTS = {"given": GIVEN, "rest": AT_REST}
+STARTS = {"given": GIVEN, "rest": AT_REST, "steady": STEADY}
 
 
 class Table(NamedTuple):
@@ -125,7 +125,7 @@ def number(values: Values, key: str, table: str = "") -> int:
 
 
 def choice(values: Values, key: str, meanings: Dict[str, int]) -> int:
-    """The meaning of a key that takes one of two words."""
+    """The meaning of a key that takes one of some words."""
     word = values[chosen("", values, [key])]
     if not isinstance(word, str) or word not in meanings:
         raise BadText("%s: %s is neither %s" % (key, shown(word), " nor ".join('"%s"' % name for name in meanings)))
@@ -221,15 +221,15 @@ def read_table(table: Table, text: Values, spared: Sequence[str] = ()) -> Dict[s
 # The layer
 # ----------------------------------------------------------------------------------------------------------------
 
-def layer_of(text: Values) -> Layer:
-    """The layer of a text."""
+def layer_of(text: Values, dry: bool = False) -> Layer:
+    """The layer of a text. At rest, or if it may be dry, its elements can be given without water."""
     check_keys(text)
     top, bottom, start = choice(text, "top", FACES), choice(text, "bottom", FACES), choice(text, "start", STARTS)
     level = number(text, "bottom_level_m") if bottom == DRAINED or "bottom_level_m" in text else 0
     gravity, top_level = number(text, "specific_gravity"), number(text, "top_level_m")
     end_key = chosen("", text, END_KEYS)
     end, budget = number(text, end_key), number(text, "budget")
-    elements = read_table(ELEMENTS, text, ELEMENTS.second if start == AT_REST else ())
+    elements = read_table(ELEMENTS, text, ELEMENTS.second if dry or start == AT_REST else ())
     solids = elements["solids_m"]
     water = elements.get("water_m", [0] * len(solids))
     first, second, load = (read_table(table, text) for table in (COMPRESSIBILITY, CONDUCTIVITY, LOAD))
@@ -241,15 +241,19 @@ def layer_of(text: Values) -> Layer:
                  second["conductivity_m_per_s"], load[time_key], load["load_kPa"], end_key, time_key)
 
 
-def read_text(data: bytes) -> Layer:
+def read_text(data: bytes, dry: bool = False) -> Layer:
     """The layer of the bytes of a text."""
-    return layer_of(parsed(data))
+    return layer_of(parsed(data), dry)
+
+
+def layer_in(file: str, data: bytes, dry: bool = False) -> Layer:
+    """The layer of the bytes that a text file has."""
+    try:
+        return read_text(data, dry)
+    except BadText as fault:
+        raise BadText("%s: %s" % (file, fault)) from fault
 
 
 def read_layer(file: str) -> Layer:
     """The layer of a text file."""
-    data = job_bytes(file)
-    try:
-        return read_text(data)
-    except BadText as fault:
-        raise BadText("%s: %s" % (file, fault)) from fault
+    return layer_in(file, job_bytes(file))

@@ -24,6 +24,9 @@ sys.path.insert(0, os.path.dirname(os.path.abspath(__file__)))
 
 from keys import YEAR_DAYS, Key, NoAnswer, Refusal, ask, counted, job_bytes, stop_words  # noqa: E402
 
+FACES = ("closed", "drained")
+STARTS = ("with given water", "at rest", "steady")
+
 ENDS = 40       # ends at equal distances in the square root of time, besides 0 and the load table's times
 PROFILES = 6
 
@@ -57,10 +60,11 @@ def unit(most: int, units: Sequence[Tuple[int, int, str]], own: str) -> Unit:
 # ----------------------------------------------------------------------------------------------------------------
 
 class Job(NamedTuple):
-    """What a drawing needs of a job: faces, end, solids of the elements, times of the load table."""
+    """What a drawing needs of a job: faces, start, end, solids of the elements, times of the load table."""
 
     top: int
     bottom: int
+    start: int
     end: int
     solids: List[int]
     load_times: List[int]
@@ -71,7 +75,7 @@ def read_job(job: bytes) -> Job:
     elements, curve1, curve2, table = job[7:11]
     fields = struct.unpack_from("<%dQ" % (2 * (elements + curve1 + curve2 + table)), job, 48)
     firsts = fields[0::2]
-    return Job(job[5], job[6], struct.unpack_from("<Q", job, 32)[0], list(firsts[:elements]),
+    return Job(job[5], job[6], job[11], struct.unpack_from("<Q", job, 32)[0], list(firsts[:elements]),
                list(firsts[elements + curve1 + curve2:]))
 
 
@@ -281,10 +285,9 @@ def profile_panel(job: Job, keys: Sequence[Key], time: Unit) -> List[str]:
 def drawing(name: str, job: Job, keys: Sequence[Key]) -> str:
     """The whole sheet."""
     time = unit(max(1, keys[-1].clock), TIME_UNITS, "s")
-    face = ("closed", "drained")
-    about = "%s, top %s, bottom %s; %s from the start, the last of %s" \
-        % (counted(len(job.solids), "element"), face[job.top], face[job.bottom], counted(len(keys), "run"),
-           counted(keys[-1].steps, "step"))
+    about = "%s, top %s, bottom %s, start %s; %s from there, the last of %s" \
+        % (counted(len(job.solids), "element"), FACES[job.top], FACES[job.bottom], STARTS[job.start],
+           counted(len(keys), "run"), counted(keys[-1].steps, "step"))
     stop = "stop %d of the last: %s" % (keys[-1].stop, stop_words(keys[-1].stop))
     marks = [text(100, 40, name, size=22), text(100, 64, about), text(100, 84, stop)]
     marks += totals_panel(keys, time) + load_panel(keys, time) + profile_panel(job, keys, time)

@@ -1,6 +1,6 @@
 #!/usr/bin/env python3
-"""Tests of job.py and describe.py with a program that packs a layer's words and asks the reference whether the job
-opens: `python3 test_layer_texts.py`. Quiet when all is well; exit status 1 when a test fails."""
+"""Tests of job.py and describe.py with a double of the program, which packs a layer's words and asks the reference
+whether the job opens: `python3 test_layer_texts.py`. Quiet when all is well; exit status 1 when a test fails."""
 
 from __future__ import annotations
 
@@ -33,6 +33,9 @@ import make_scenarios as scenarios  # noqa: E402
 import makers  # noqa: E402
 import rules  # noqa: E402
 from chance import Chance  # noqa: E402
+from seepage import Ground  # noqa: E402
+from stand_in import composed as stand_in, refusal as refusal_of  # noqa: E402
+from steady_search import search  # noqa: E402
 
 TEXT = """\
 # A comment says what the layer is.
@@ -67,28 +70,15 @@ time_days = [0]
 load_kPa = [15]
 """
 
+# Under 15 kPa the void ratio 1.9 has no excess pressure.
+STILL = TEXT.replace('"given"', '"steady"').replace("2.65", "1").replace("[0.002, 0.0015]", "[0.0019, 0.0019]")
+
 JOB = rules.Job(top=1, gravity=2_650, top_level=10_000_000, end=30 * 86_400, budget=1_000,
                 elements=[(1_000_000, 2_000_000), (1_000_000, 1_500_000)],
                 curve1=[(5_000_000, 200_000_000), (105_000_000, 100_000_000)],
                 curve2=[(100_000_000, 100_000), (200_000_000, 200_000)], table=[(0, 15_000_000)])
 
 DRAWN = 400
-
-
-def stand_in(_program: str, words: bytes) -> bytes:
-    """What the program writes of the words of a layer, from the reference."""
-    top, bottom, *counts, start, gravity, top_level, bottom_level, end, budget = struct.unpack_from("<12Q", words)
-    if max(counts[1:]) > 64 or counts[0] > 128 or gravity > 65_535:
-        return b"refused 3\n"
-    groups, at = [], 12
-    for count, places in zip(counts, (128, 64, 64, 64)):
-        columns = struct.unpack_from("<%dQ" % (2 * places), words, 8 * at)
-        groups.append(list(zip(columns[:count], columns[places:places + count])))
-        at += 2 * places
-    assert len(words) == 8 * at
-    made = rules.job_bytes(rules.Job(top, bottom, start, gravity, top_level, bottom_level, end, budget, *groups))
-    refusal = rules.open_job(made)[0]
-    return b"refused %d\n" % refusal if refusal else made
 
 
 def run(script: object, arguments: Sequence[str]) -> Tuple[int, str, str]:
@@ -199,6 +189,10 @@ class Forms(Texts):
         self.assertEqual(self.made(changed("solids_m =", "water_m = [0, 0.0]\nsolids_m =", text=rest)), self.made(rest))
         self.assertEqual(self.made(changed("specific", "bottom_level_m = 0\nspecific")), self.made(TEXT))
 
+    def test_a_steady_start(self) -> None:
+        self.assertEqual(self.made(STILL), rules.job_bytes(replace(
+            JOB, start=2, gravity=1_000, elements=[(1_000_000, 1_900_000)] * 2)))
+
     def test_other_ways_to_write_a_text(self) -> None:
         self.assertEqual(words_of("\ufeff" + TEXT), words_of(TEXT))
         self.assertEqual(words_of(TEXT.replace("\n", "\r\n")), words_of(TEXT))
@@ -290,6 +284,7 @@ class BadTexts(Texts):
                 (("[load]", "[loads]"), "loads: there is no such key; did you mean load?"),
                 (("[load]", "[[load]]"), "load: an array is no table"),
                 (("water_m = [0.002, 0.0015]\n", ""), "elements.water_m: missing"),
+                (("water_m = [0.002, 0.0015]\n", "", '"given"', '"steady"'), "elements.water_m: missing"),
                 (("budget = 1000", "budgets = 1000"), "budgets: there is no such key; did you mean budget?"),
                 (("solids_m", "solid_m"), "elements.solid_m: there is no such key; did you mean solids_m?"),
                 (("load_kPa", "load_kpa"), "load.load_kpa: there is no such key; did you mean load_kPa?"),
@@ -308,7 +303,8 @@ class BadTexts(Texts):
                 (('"drained"', '"open"'), 'top: \'open\' is neither "closed" nor "drained"'),
                 (('"drained"', "1e" + "9" * 20), 'top: 1e%s is neither "closed" nor "drained"' % ("9" * 20)),
                 (('"closed"', "false"), 'bottom: false is neither "closed" nor "drained"'),
-                (('"given"', '["rest"]'), 'start: an array is neither "given" nor "rest"'),
+                (('"given"', '["rest"]'), 'start: an array is neither "given" nor "rest" nor "steady"'),
+                (('"given"', '"still"'), 'start: \'still\' is neither "given" nor "rest" nor "steady"'),
                 (("[elements]\nsolids_m", "[elements.x]\nsolids_m"), "elements.x: there is no such key; the keys here "
                  "are solids_m, water_m, count, columns, rows")):
             self.assert_bad(changed(*changes).encode(), wrong)
@@ -488,14 +484,36 @@ class Refusals(Texts):
                                 "load.load_kPa, point 1: under %d kPa element %d carries %s kPa, which is not within 5 to "
                                 "105 kPa, the ends of the curve" % (load, element, carried))
 
+    def test_a_start_at_rest_over_another_level(self) -> None:
+        rest = changed('"given"', '"rest"', "water_m = [0.002, 0.0015]\n", "", '"closed"', '"drained"',
+                       "top_level_m = 0.01\n", "top_level_m = 0.01\nbottom_level_m = 0.010000001\n")
+        self.assert_refused(rest, 9, "start: a layer at rest has a closed bottom or one at the top's level, but "
+                            "bottom_level_m is 0.010000001 m and top_level_m is 0.01 m; ./kufandra steady looks for steady "
+                            "water heights")
+        self.assertEqual(self.made(changed("0.010000001", "0.01", text=rest))[11], 1)
+
+    def test_a_steady_start(self) -> None:
+        end = "; ./kufandra steady looks for steady water heights"
+        told = "start: by this script's reckoning the upward flows differ most between %s" + end
+        for water, faces in (
+                ("[0.0019, 0.0018]", "the top, -131,061 nm, and the face between elements 1 and 2, 66,152 nm"),
+                ("[0.0018, 0.0019]", "the face between elements 1 and 2, -66,152 nm, and the bottom, 0 nm"),
+                ("[0.0019, 0.001901]", "the face between elements 1 and 2, -667 nm, and the top, 1,335 nm")):
+            self.assert_refused(changed("[0.0019, 0.0019]", water, text=STILL), 20, told % faces)
+        self.assert_refused(changed("[0.0019, 0.0019]", "[0.0025, 0.0019]", text=STILL), 9,
+                            "elements.water_m, element 1: the void ratio 2.5 is not within 1 to 2, the ends of the "
+                            "curve")
+        self.assert_refused(changed("[0.0019, 0.0019]", "[0.0019, 1.1]", text=STILL), 5,
+                            "elements.water_m, element 2: 1.1 m is not within 0 to 1 m")
+
     def test_the_first_cause_is_told(self) -> None:
         self.assert_refused(changed("= 1000", "= 1000001", "[105, 1]", "[5, 1]", "[0]", "[7]"), 5,
                             "budget: 1000001 steps is not within 0 to 1000000 steps")
 
     def test_numbers_that_no_field_explains(self) -> None:
-        for number in (3, 5, 6, 7, 8, 9, 17, 99):
+        for number, text in [(number, TEXT) for number in (3, 5, 6, 7, 8, 9, 17, 20, 99)] + [(9, STILL), (20, STILL)]:
             with mock.patch.dict(globals(), stand_in=lambda *_: b"refused %d\n" % number):
-                status, _, messages = run(job, ["", self.layer(TEXT), self.out])
+                status, _, messages = run(job, ["", self.layer(text), self.out])
             words = keys.REFUSALS.get(number, "a cause of another number")
             self.assertEqual((status, messages), (1, "layer.toml: refused %d: %s\n" % (number, words)))
 
@@ -628,6 +646,8 @@ rows = [
                  'columns = ["solids_m", "water_m"]\nrows = [\n    [0.001, 0.002],\n    [0.002, 0.004],\n]'),
                 ([(2_000_000, 2_000_000), (1_000_000, 2_000_000)], 0,
                  "count = 2\nsolids_m = [\n    0.002,\n    0.001,\n]\nwater_m = 0.002"),
+                ([(1_000_000, 1_899_758), (1_000_000, 1_899_920)], 2,
+                 "count = 2\nsolids_m = 0.001\nwater_m = [\n    0.001899758,\n    0.00189992,\n]"),
                 ([(1_000_000, 0)], 1, "count = 1\nsolids_m = 0.001"),
                 ([(1_000_000, 0), (2_000_000, 0)], 1, "solids_m = [\n    0.001,\n    0.002,\n]")):
             status, text, _ = self.described(rules.job_bytes(replace(JOB, elements=elements, start=start)))
@@ -653,15 +673,28 @@ rows = [
             yield from ways(scenarios.specimen())
         for _, data in scenarios.two_causes(scenarios.specimen()):
             yield data
+        for index in range(DRAWN // 4):
+            yield from self.steady_jobs(makers.make_job(Chance(51_000, index)))
+
+    def steady_jobs(self, made: rules.Job) -> Iterator[bytes]:
+        """A job with a steady start, as the job is and with heights that a search finds."""
+        yield rules.job_bytes(replace(made, start=2))
+        if rules.body_refusal(made):
+            return
+        ground = Ground(layer.read_job(rules.job_bytes(made)))
+        if not ground.without_height():
+            water = search(ground, [water for _, water in made.elements], lambda *_: None).water
+            elements = [(solids, height) for (solids, _), height in zip(made.elements, water)]
+            yield rules.job_bytes(replace(made, start=2, elements=elements))
 
     def test_every_job_comes_back(self) -> None:
-        accepted, refused = 0, {number: 0 for number in range(1, 10)}
+        accepted, refused = {start: 0 for start in range(3)}, {number: 0 for number in (*range(1, 10), 20)}
         for data in self.jobs():
-            refusal = rules.open_job(data)[0]
+            refusal = refusal_of(data)
             status, text, messages = self.described(data)
             self.assertEqual(status, 1 if refusal else 0, messages)
             if not refusal:
-                accepted += 1
+                accepted[data[11]] += 1
                 self.assertEqual((self.made(text), messages), (data, ""))
                 continue
             refused[refusal] += 1
@@ -672,7 +705,8 @@ rows = [
                 self.assertEqual(run(job, ["", self.layer(text), self.place("no.job")]),
                                  (1, "", "layer.toml: " + messages[10:]))
                 self.assertEqual(words_of(text), layer.words(layer.read_job(data)))
-        self.assertGreaterEqual(accepted, 300)
+        self.assertGreaterEqual(sum(accepted.values()), 300)
+        self.assertTrue(all(count > 30 for count in accepted.values()), accepted)
         self.assertTrue(all(count > 3 for count in refused.values()), refused)
 
     def test_a_text_is_read_as_the_same_layer(self) -> None:
@@ -685,7 +719,7 @@ rows = [
     def test_bytes_that_no_layer_has(self) -> None:
         sound = rules.job_bytes(JOB)
         for data, number in ((b"", 1), (sound[:47], 1), (b"LSD" + sound[3:], 1), (sound[:3] + b"\2" + sound[4:], 2),
-                             (sound[:5] + b"\2" + sound[6:], 3), (sound[:11] + b"\2" + sound[12:], 3),
+                             (sound[:5] + b"\2" + sound[6:], 3), (sound[:11] + b"\3" + sound[12:], 3),
                              (sound[:15] + b"\1" + sound[16:], 3), (sound + b"\0", 4), (sound[:-1], 4),
                              (sound[:7] + b"\0" + sound[8:], 3)):
             self.assertEqual(self.described(data),

@@ -1,6 +1,6 @@
 #!/usr/bin/env python3
-"""Tests of key_table.py and plot.py with answers of the reference: `python3 test_views.py`. Quiet when all is
-well; exit status 1 when a test fails."""
+"""Tests of key_table.py and plot.py with answers of a double that asks the reference: `python3 test_views.py`. Quiet
+when all is well; exit status 1 when a test fails."""
 
 from __future__ import annotations
 
@@ -24,6 +24,7 @@ import key_table  # noqa: E402
 import keys  # noqa: E402
 import plot  # noqa: E402
 import rules  # noqa: E402
+import stand_in  # noqa: E402
 
 SPECIMEN_TABLE = """\
 Key of specimen.job
@@ -46,9 +47,8 @@ element         mm            -                kPa            kPa             kP
 
 
 def reference_answer(_program: str, job: bytes) -> object:
-    """What the program writes for a job, from the reference."""
-    refusal, result = rules.key(job)
-    return keys.read_answer(b"refused %d\n" % refusal if refusal else result)
+    """What the program writes for a job, from the double."""
+    return keys.read_answer(stand_in.key(job))
 
 
 def written_by(view: object, arguments: Sequence[str]) -> Tuple[int, str, str]:
@@ -105,21 +105,23 @@ class KeyTable(Views):
 
     def test_refusals(self) -> None:
         seen: List[str] = []
-        for number in range(1, 11):
+        for number in (*range(1, 11), 20):
             program = self.program("cat >/dev/null; echo refused %d" % number)
             out = io.StringIO()
             with contextlib.redirect_stdout(out):
                 self.assertEqual(key_table.main([program, SPECIMEN]), 1)
             self.assertEqual(out.getvalue(), "specimen.job: refused %d: %s\n" % (number, keys.REFUSALS[number]))
             seen.append(out.getvalue().partition(": refused ")[2].partition(": ")[2])
-        self.assertEqual(len(set(seen)), 10)
+        self.assertEqual(len(set(seen)), 11)
 
     def test_refusals_of_real_jobs(self) -> None:
         wrong = [b"", specimen_with(version=2), specimen_with(top=2), specimen_with() + b"\0",
                  specimen_with(budget=2**64 - 1), specimen_with(curve1=[(1, 1), (2, 2)]),
                  specimen_with(curve2=[(1, 1), (2, 2)]), specimen_with(table=[(1, 0)]),
                  specimen_with(elements=[(1_000_000, 0)])]
-        for number, job in enumerate(wrong, 1):
+        numbered = [*enumerate(wrong, 1), (9, specimen_with(start=1, bottom=1, elements=[(1_000_000, 0)])),
+                    (20, specimen_with(start=2))]
+        for number, job in numbered:
             status, out, _ = written_by(key_table, ["", self.job(job)])
             self.assertEqual((status, out), (1, "layer.job: refused %d: %s\n" % (number, keys.REFUSALS[number])))
 
@@ -173,7 +175,7 @@ class Plot(Views):
 
     def test_ends(self) -> None:
         job = plot.read_job(specimen_with(end=6_400, table=[(0, 0), (150, 5), (6_400, 7), (9_000, 9)]))
-        self.assertEqual(job, plot.Job(1, 0, 6_400, [1_000_000] * 2, [0, 150, 6_400, 9_000]))
+        self.assertEqual(job, plot.Job(1, 0, 0, 6_400, [1_000_000] * 2, [0, 150, 6_400, 9_000]))
         with mock.patch.object(plot, "ENDS", 8):
             self.assertEqual(plot.chosen_ends(job), [0, 100, 150, 400, 900, 1_600, 2_500, 3_600, 4_900, 6_400])
         self.assertEqual(struct.unpack_from("<Q", plot.with_end(specimen_with(), 7), 32)[0], 7)
@@ -189,6 +191,21 @@ class Plot(Views):
         long = specimen_with(elements=[(100_000_000, 200_000_000)] * 128, end=3_000_000_000, budget=3)
         for job, ends in ((still, 1), (one, 4), (long, 9)):
             self.assertEqual(list(self.curves(self.drawn(job), "settlement")), [ends])
+
+    def test_a_steady_layer_stands_still_until_it_is_loaded(self) -> None:
+        job = specimen_with(start=2, bottom=1, bottom_level=11_000_000, end=6_400, budget=1_000,
+                            elements=[(1_000_000, 1_900_073), (1_000_000, 1_900_024)],
+                            table=[(0, 15_000_000), (1_000, 15_000_000), (1_001, 40_000_000)])
+        root = self.drawn(job)
+        words = [mark.text for mark in root.iter("{http://www.w3.org/2000/svg}text")]
+        self.assertTrue(any("bottom drained, start steady;" in line for line in words), words)
+        points = next(mark.get("points", "") for mark in root.iter("{http://www.w3.org/2000/svg}polyline")
+                      if mark.get("class") == "settlement")
+        heights = [float(point.partition(",")[2]) for point in points.split()]
+        with mock.patch.object(plot, "ENDS", 8):
+            still = sum(end <= 1_000 for end in plot.chosen_ends(plot.read_job(job)))
+        self.assertEqual((still, set(heights[:still])), (5, {heights[0]}))
+        self.assertGreater(heights[still + 1], heights[0] + 10)
 
     def test_refused(self) -> None:
         for job in (b"", specimen_with()[:47], specimen_with(end=2**40), specimen_with(budget=2**40)):
