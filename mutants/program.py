@@ -24,6 +24,7 @@ TESTS: Dict[str, List[str]] = {
     "consolidate": ["tests/run_program"],
     "compose": ["tests/run_texts"],
     "piezometer": ["tests/run_readings"],
+    "long_division": ["tests/run_division"],
 }
 
 

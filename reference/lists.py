@@ -5,6 +5,7 @@ from __future__ import annotations
 import re
 from typing import Iterable, Iterator, List, Optional, Sequence, TextIO
 
+from division import division_call
 from rules import ELEMENT_PLACES, POINT_PLACES, U64_MAX, Pair, Record
 from rules import load_call, open_job, padded, run_call, step_call
 
@@ -36,13 +37,16 @@ reads   Scripts, from the files in turn or from standard input. One statement a 
         load X                   call: set the load, mPa
         step T                   call: one step, s
         run END BUDGET           call: run to the time END, s, in at most BUDGET steps
+        division T               call: the divisions of a step of T seconds, which is not taken
                                  The numbers of calls are unsigned, 64 bits.
 
 writes  One line for each opening: `opened N` (0 or the refusal number) for a job, `record` for a record. Then two
-        lines for each call: `load N`, `step N` or `run N STOP STEPS` (N is 0 or the refusal number; STOP and STEPS
-        only when it is 0), and
+        lines for each call: `load N`, `step N`, `run N STOP STEPS` or `division N COUNT F R F R ...` (N is 0 or the
+        refusal number; what follows it only when it is 0), and
         state LOAD CLOCK TOP_OUTFLOW BOTTOM_OUTFLOW STARTING_WATER W W ...
         in mPa, s and nm, the water without the zeros at the end of its 128 places.
+        COUNT is the number of inner and drained faces; F and R are the flow through each of them from the bottom up,
+        nm, and the remainder of its division, mPa s, both signed: upward, and outward at top and bottom.
         A refused job leaves the blank record, on which every call answers 11.
 
 exit    0; or 2 and a message for a script that breaks the format.
@@ -53,7 +57,7 @@ RECORD_NUMBERS = ("elements", "gravity", "top_level", "bottom_level", "clock", "
                   "starting_water", "present_load")
 RECORD_POINTS = ("curve1", "curve2", "table")
 RECORD_HEIGHTS = ("solids", "water")
-CALLS = {"load": 1, "step": 1, "run": 2}
+CALLS = {"load": 1, "step": 1, "run": 2, "division": 1}
 
 
 class ScriptError(Exception):
@@ -109,6 +113,14 @@ def state_line(record: Record) -> str:
     return " ".join(["state"] + [str(number) for number in numbers + without_trailing(record.water, 0)])
 
 
+def division_line(refusal: int, entries: Sequence[Pair]) -> str:
+    """The answer line of a division."""
+    if refusal:
+        return "division %d" % refusal
+    numbers = [0, len(entries)] + [number for entry in entries for number in entry]
+    return " ".join(["division"] + [str(number) for number in numbers])
+
+
 def answer_call(record: Record, name: str, numbers: Sequence[int]) -> str:
     """Make a call on a record and give its answer line."""
     if len(numbers) != CALLS[name] or not all(0 <= number <= U64_MAX for number in numbers):
@@ -116,6 +128,8 @@ def answer_call(record: Record, name: str, numbers: Sequence[int]) -> str:
     if name == "run":
         refusal, stop, steps = run_call(record, *numbers)
         return "run %d" % refusal if refusal else "run 0 %d %d" % (stop, steps)
+    if name == "division":
+        return division_line(*division_call(record, *numbers))
     return "%s %d" % (name, load_call(record, *numbers) if name == "load" else step_call(record, *numbers))
 
 

@@ -1,17 +1,20 @@
 #!/usr/bin/env python3
-"""Writes cases for tests/harness.c to standard output: jobs, descriptions and readings, lengths of the buffers that
-they are worked into, and the reference's answers.
+"""Writes cases for tests/harness.c to standard output: jobs, descriptions, readings and steps to divide, lengths of the
+buffers that they are worked into, and the reference's answers.
 
     python3 make_cases.py SEED COUNT
 
 The same seed and count always give the same cases, at least COUNT jobs, then at least COUNT descriptions, then at least
-a third as many jobs with readings.
+a third as many jobs with readings, then at least a third as many jobs with seconds.
 
 OUTPUT  Words are 64 bits, little-endian. For each case: kind (1 a job for the key, 2 a description for the writer of
-        jobs, 3 a job with readings); bytes of the job or of the description's words; bytes of the readings' words,
-        else 0; room (bytes of the buffer); number that has to be returned; bytes that have to be written at the start
-        of the buffer, none if it is refused; the job or the words; the readings; the bytes to be written, which for
-        readings are words too. After the last case a 0 and the number of cases.
+        jobs, 3 a job with readings, 4 a job with the seconds of a step to divide); bytes of the job or of the
+        description's words; bytes of the readings' words, or of the word with the seconds, else 0; room (bytes of the
+        buffer); bytes of the second buffer, which is that of the remainders, else 0; number that has to be returned, in
+        two's complement; bytes that have to be written at the start of the buffer, or of each of two, none if it is
+        refused; the job or the words; the readings or the seconds; the bytes to be written, which for readings are
+        words too, and for seconds the words of the flows, then those of the remainders. After the last case a 0 and the
+        number of cases.
 """
 
 from __future__ import annotations
@@ -27,6 +30,8 @@ sys.path.insert(0, HERE)
 
 import damage  # noqa: E402
 import description_cases as descriptions  # noqa: E402
+import division  # noqa: E402
+import division_cases as divisions  # noqa: E402
 import make_descriptions  # noqa: E402
 import makers  # noqa: E402
 import piezometer  # noqa: E402
@@ -41,7 +46,7 @@ SHORT_RUN, LONG_RUN = 150, 20_000  # element-steps of a run
 SMALL = 400                        # bytes of a small job
 MOST_ROOM = 8_192
 
-KEY_CASE, WRITER_CASE, READINGS_CASE = 1, 2, 3
+KEY_CASE, WRITER_CASE, READINGS_CASE, FLOWS_CASE = 1, 2, 3, 4
 
 
 def case_bytes(vector: Vector) -> bytes:
@@ -49,14 +54,14 @@ def case_bytes(vector: Vector) -> bytes:
     buffer = bytearray(vector.room)
     number = rules.key_into(vector.job, buffer)
     result = b"" if number else bytes(buffer[:needed(vector.job)])
-    return words([KEY_CASE, len(vector.job), 0, vector.room, number, len(result)]) + vector.job + result
+    return words([KEY_CASE, len(vector.job), 0, vector.room, 0, number, len(result)]) + vector.job + result
 
 
 def description_case_bytes(vector: make_descriptions.Vector) -> bytes:
     """A case of a description, with the reference's answer; a job that is written is read back as well."""
     worked = make_descriptions.Worked(vector)
     job = worked.job or b""
-    return words([WRITER_CASE, len(vector.body), 0, vector.room, worked.number, len(job)]) + vector.body + job
+    return words([WRITER_CASE, len(vector.body), 0, vector.room, 0, worked.number, len(job)]) + vector.body + job
 
 
 def readings_case_bytes(vector: readings.Vector) -> bytes:
@@ -64,8 +69,17 @@ def readings_case_bytes(vector: readings.Vector) -> bytes:
     answers = [0] * vector.room
     number = piezometer.readings_into(vector.job, vector.words, answers)
     given, written = words(vector.words), b"" if number else words(answers[:readings.needed(vector.words)])
-    head = words([READINGS_CASE, len(vector.job), len(given), 8 * vector.room, number, len(written)])
+    head = words([READINGS_CASE, len(vector.job), len(given), 8 * vector.room, 0, number, len(written)])
     return head + vector.job + given + written
+
+
+def flows_case_bytes(vector: divisions.Vector) -> bytes:
+    """A case of a job with seconds, with the reference's flows and remainders."""
+    flows, remainders = [0] * vector.flows, [0] * vector.remainders
+    number = division.flows_into(vector.job, vector.seconds, flows, remainders)
+    count = max(0, number)
+    head = words([FLOWS_CASE, len(vector.job), 8, 8 * vector.flows, 8 * vector.remainders, number, 8 * count])
+    return head + vector.job + words([vector.seconds] + flows[:count] + remainders[:count])
 
 
 # ----------------------------------------------------------------------------------------------------------------
@@ -179,6 +193,8 @@ LONG_RUNS = 1_000  # one longer run in so many cases
 FIRST_DESCRIPTION = 2**31  # number of the group before the first of descriptions
 FIRST_READINGS = 3 * 2**30  # number of the group before the first of readings
 JOBS_TO_READINGS = 3        # so many jobs for the key to one with readings
+FIRST_FLOWS = 7 * 2**29     # number of the group before the first of seconds
+JOBS_TO_FLOWS = 3           # so many jobs for the key to one with seconds
 
 
 class Groups:
@@ -233,11 +249,20 @@ def reading_cases(seed: int, count: int) -> Iterator[readings.Vector]:
     yield from groups.until(count, readings.sound)
 
 
+def flows_cases(seed: int, count: int) -> Iterator[divisions.Vector]:
+    """At least so many jobs with seconds."""
+    makers.AFFORDABLE = SHORT_RUN
+    groups = Groups(seed, FIRST_FLOWS)
+    yield from groups.shares(count, divisions.FAMILIES)
+    yield from groups.until(count, divisions.sound)
+
+
 def all_cases(seed: int, count: int) -> Iterator[bytes]:
-    """The bytes of all cases, jobs first, then descriptions."""
+    """The bytes of all cases: jobs, descriptions, readings, seconds."""
     yield from map(case_bytes, cases(seed, count))
     yield from map(description_case_bytes, description_cases(seed, count))
     yield from map(readings_case_bytes, reading_cases(seed, -(-count // JOBS_TO_READINGS)))
+    yield from map(flows_case_bytes, flows_cases(seed, -(-count // JOBS_TO_FLOWS)))
 
 
 def main() -> int:
@@ -245,7 +270,8 @@ def main() -> int:
     parser = argparse.ArgumentParser(description=__doc__, formatter_class=argparse.RawDescriptionHelpFormatter)
     parser.add_argument("seed", type=int, metavar="SEED", help="a whole number of 0 or more")
     parser.add_argument("count", type=int, metavar="COUNT",
-                        help="how many jobs and how many descriptions at least; a third as many jobs with readings")
+                        help="how many jobs and how many descriptions at least; a third as many jobs with readings, "
+                             "and as many with seconds")
     chosen = parser.parse_args()
     written = 0
     try:

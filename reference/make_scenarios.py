@@ -10,7 +10,8 @@ seed, so the files are the same on every machine.
 
 INPUT   Files of blocks, named in the file `args`. Words are 64 bits, little-endian; signed ones in two's complement.
         file      number of blocks, then the blocks: here lists, in the files of `make_vectors.py` and
-                  `make_descriptions.py` vectors, in those of `make_readings.py` records with readings
+                  `make_descriptions.py` vectors, in those of `make_readings.py` records with readings, in those of
+                  `make_divisions.py` lists with divisions
         list      kind (0 a job, 1 a record), bytes of the body (at most 8,192), number of calls (at most 32); body;
                   calls
         job       the job's bytes
@@ -58,13 +59,13 @@ CRATE = os.path.join(os.path.dirname(HERE), "crates", "scenarios")
 
 # The files `args` and `stdout` have a share of the lists, then one of the vectors of make_vectors.py, whose files are
 # key_*, then one of those of make_descriptions.py, whose files are job_*, then one of the readings of make_readings.py,
-# whose files are reading_*.
+# whose files are reading_*, then one of the divisions of make_divisions.py, whose files are division_*.
 SHARED = ("args", "stdout")
-LISTED, KEYS, JOBS, READ = range(4)
-PREFIXES = {"key_": KEYS, "job_": JOBS, "reading_": READ}
-FIRST_FILES = (b"key_accepted", b"job_written", b"reading_limits")  # of the shares after the first
+LISTED, KEYS, JOBS, READ, DIVIDED = SHARES = range(5)
+PREFIXES = {"key_": KEYS, "job_": JOBS, "reading_": READ, "division_": DIVIDED}
+FIRST_FILES = (b"key_accepted", b"job_written", b"reading_limits", b"division_worked")  # of the shares after the first
 
-JOB, RECORD, KEY, DESCRIPTION, READINGS = range(5)
+JOB, RECORD, KEY, DESCRIPTION, READINGS, DIVIDED_JOB, DIVIDED_RECORD = range(7)
 CALL_NUMBERS = {"load": 0, "step": 1, "run": 2}
 BODY_BYTES = 8_192
 CALLS = 32      # most calls of a list
@@ -897,7 +898,7 @@ def check(made: Dict[str, bytes], share: int = LISTED) -> int:
 
 def write(made: Dict[str, bytes], share: int = LISTED) -> None:
     """Store the made files of a share in place of the old ones."""
-    stored = [stored_files(each) for each in (LISTED, KEYS, JOBS, READ)]
+    stored = [stored_files(each) for each in SHARES]
     os.makedirs(os.path.join(CRATE, "data"), exist_ok=True)
     for name in stored[share]:
         os.remove(os.path.join(CRATE, name))

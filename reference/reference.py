@@ -17,6 +17,10 @@ As a module, in rules.py:
 In piezometer.py:
     reading_call(record, reading) -> (refusal, missing, difference)
     readings_into(job, words, answers) -> refusal
+In division.py:
+    division_call(record, seconds) -> (refusal, [(flow, remainder), ...])
+    flows_into(job, seconds, flows, remainders) -> entries or minus the refusal
+    long_division(job, seconds) -> bytes
 A refusal of 0 means that the call was accepted. A refused call leaves its record or buffer as it was.
 """
 

@@ -18,6 +18,7 @@ HERE = os.path.dirname(os.path.abspath(__file__))
 sys.path.insert(0, HERE)
 
 import damage  # noqa: E402
+import division  # noqa: E402
 import lists  # noqa: E402
 import makers  # noqa: E402
 import piezometer  # noqa: E402
@@ -146,8 +147,28 @@ class Program(unittest.TestCase):
                  "run 16", "state 15000000 100 13591 0 4000000 2000000 1986409 0 7"]
         self.assertEqual(run_program(["calls"], script.encode()), (0, ("\n".join(lines) + "\n").encode()))
 
+    def test_division_statements(self) -> None:
+        script = "\n".join(["job", "division 1", "", "job " + rules.job_bytes(specimen()).hex(), "division 100",
+                            "step 100", "division 100", "division 368", "division 369",
+                            "division 18446744073709551615", "load 0", "division 367"]) + "\n"
+        states = ["state 15000000 0 0 0 4000000 2000000 2000000",
+                  "state 15000000 100 13591 0 4000000 2000000 1986409",
+                  "state 0 100 13591 0 4000000 2000000 1986409"]
+        lines = ["opened 1", "division 11", "state 0 0 0 0 0",
+                 "opened 0",
+                 "division 0 2 0 0 13591 42175", states[0],
+                 "step 0", states[1],
+                 "division 0 2 922 81882 11717 31552", states[1],
+                 "division 0 2 3395 795 43120 9920", states[1],
+                 "division 14", states[1],
+                 "division 13", states[1],
+                 "load 0", states[2],
+                 "division 15", states[2]]
+        self.assertEqual(run_program(["calls"], script.encode()), (0, ("\n".join(lines) + "\n").encode()))
+
     def test_calls_break_the_format(self) -> None:
-        for script in ("load 1\n", "job 0\n", "job 00 00\n", "record\nload -1\n", "record\nload  1\n", "record\nstep\n",
+        for script in ("record\ndivision\n", "record\ndivision -1\n", "record\ndivision 1 2\n", "division 1\n",
+                       "load 1\n", "job 0\n", "job 00 00\n", "record\nload -1\n", "record\nload  1\n", "record\nstep\n",
                        "record\nload 18446744073709551616\n", "record\nstep 1\nclock 5\n", "record\ncurve1 1 2\n"):
             with self.assertRaises(lists.ScriptError):
                 list(lists.answer_script(io.StringIO(script), "script"))
@@ -834,6 +855,257 @@ class Readings(unittest.TestCase):
         job = rules.job_bytes(specimen())
         for length, cause in ((0, 1), (47, 1), (48, 4), (159, 4)):
             self.assertEqual(self.worked(job[:length], [1, 1, self.ONE], 0), (cause, []))
+
+
+class Divisions(unittest.TestCase):
+    """Flows with what the division left, and what both curves' interpolation leaves."""
+
+    DRY = [(1_000_000, 1_500_000)] * 2  # void ratio 1.5: effective stress 55,000,000, k 150,000, r 81,750
+
+    def entries(self, record: rules.Record, seconds: int) -> List[Tuple[int, int]]:
+        """Flows and remainders of an accepted division; the record has to stay as it was."""
+        before = record.copy()
+        refusal, entries = division.division_call(record, seconds)
+        self.assertEqual((refusal, record), (0, before), seconds)
+        return entries
+
+    def refusal(self, record: rules.Record, seconds: int) -> int:
+        """The number of a refused division; the record has to stay as it was."""
+        before = record.copy()
+        refusal, entries = division.division_call(record, seconds)
+        self.assertEqual((entries, record), ([], before), seconds)
+        return refusal
+
+    def test_specimen(self) -> None:
+        record = opened(specimen())
+        self.assertEqual(self.entries(record, 100), [(0, 0), (13_591, 42_175)])
+        self.assertEqual(13_591 * 73_575 + 42_175, 10_000_000 * 100)
+        self.assertEqual(rules.step_call(record, 100), 0)
+        self.assertEqual(self.entries(record, 100), [(922, 81_882), (11_717, 31_552)])
+        self.assertEqual((922 * 147_319 + 81_882, 11_717 * 73_744 + 31_552), (1_359_100 * 100, 8_640_900 * 100))
+        self.assertEqual(division.open_faces(record, 100), [(1_359_100, 147_319, 922, 81_882),
+                                                            (8_640_900, 73_744, 11_717, 31_552)])
+        self.assertEqual(division.element_readings(record), [
+            (200_000_000, (1, 5_000_000, 0), (1, 200_000, 0)),
+            (198_640_900, (1, 6_359_100, 0), (1, 198_640, 90_000_000))])
+
+    def test_signs_and_directions(self) -> None:
+        swelling = opened(specimen(elements=self.DRY))  # p -40,000,000 in both
+        self.assertEqual(self.entries(swelling, 100), [(0, 0), (-48_929, -54_250)])
+        sand = opened(specimen(elements=self.DRY, bottom=1, bottom_level=12_000_000))  # P 19,620
+        self.assertEqual(self.entries(sand, 100), [(-48_953, -54_250), (0, 0), (-48_929, -54_250)])
+        drawn = opened(specimen(elements=self.DRY, bottom=1, bottom_level=8_000_000))  # P -19,620
+        self.assertEqual(self.entries(drawn, 1), [(-489, -4_630), (0, 0), (-489, -24_250)])
+        pushed = opened(specimen(top=0, bottom=1, bottom_level=8_000_000, elements=self.DRY[:1],
+                                 table=[(0, 55_000_000)]))
+        self.assertEqual(self.entries(pushed, 7), [(1, 137_340 - 81_750)])
+        pairs = [(1_000_000, 1_500_000), (1_000_000, 1_600_000)]
+        for elements, inner in ((pairs, (-6_193, -96_799)), (pairs[::-1], (6_193, 96_799))):
+            record = opened(specimen(top=0, elements=elements))  # R 161,457
+            self.assertEqual(self.entries(record, 100), [inner])
+
+    def test_sizes(self) -> None:
+        for elements, at, r in ((specimen().elements, 5_000_000, 73_575), (self.DRY, 55_000_000, 81_750)):
+            for more, entry in ((0, (0, 0)), (1, (0, 1)), (r - 1, (0, r - 1)), (r, (1, 0)), (r + 1, (1, 1)),
+                                (2 * r - 1, (1, r - 1)), (2 * r, (2, 0))):
+                record = opened(specimen(elements=elements, table=[(0, at + more)]))
+                self.assertEqual(self.entries(record, 1), [(0, 0), entry], more)
+                if elements is self.DRY:
+                    record = opened(specimen(elements=elements, table=[(0, at - more)]))
+                    self.assertEqual(self.entries(record, 1), [(0, 0), (-entry[0], -entry[1])], -more)
+
+    def test_exact(self) -> None:
+        even = [(100_000_000, 147_150), (200_000_000, 147_150)]  # r 100,000 of 3,000,000 nm
+        unlike = [(1_000_000, 2_000_000), (1_200_000, 1_800_000)]  # effective stress 5,000,000 and 55,000,000
+        record = opened(specimen(elements=unlike, curve2=even, bottom=1, bottom_level=10_000_000))
+        self.assertEqual(self.entries(record, 1), [(100, 0), (250, 0), (-400, 0)])
+        self.assertEqual(self.entries(record, 7), [(700, 0), (1_750, 0), (-2_800, 0)])
+
+    def test_closed_faces_have_no_entry(self) -> None:
+        for count in (1, 2, 3, 128):
+            for top in (0, 1):
+                for bottom in (0, 1):
+                    record = opened(specimen(top=top, bottom=bottom, elements=[(1_000_000, 1_900_000)] * count))
+                    self.assertEqual(len(self.entries(record, 1)), count - 1 + top + bottom)
+        self.assertEqual(self.entries(opened(specimen(top=0, elements=self.DRY[:1])), 1_000_000), [])
+
+    def test_refusals(self) -> None:
+        record = opened(specimen())
+        self.assertEqual(len(self.entries(record, 367)), 2)
+        for seconds, number in ((0, 13), (368, 14), (1_000_000, 14), (1_000_001, 13), (2**32 + 100, 13),
+                                (2**63 + 100, 13), (2**64 - 1, 13)):
+            self.assertEqual(self.refusal(record, seconds), number, seconds)
+        heavy = replace(record.copy(), load=300_000_000)
+        late = replace(heavy, clock=2_999_999_700)
+        for changed, seconds, number in ((heavy, 367, 15), (heavy, 368, 14), (heavy, 1_000_001, 13), (late, 300, 15),
+                                         (late, 301, 13), (late, 368, 13), (replace(late, load=15_000_000), 301, 13)):
+            self.assertEqual(self.refusal(changed, seconds), number, seconds)
+        self.assertEqual(len(self.entries(replace(late, load=15_000_000), 300)), 2)
+        for broken in (rules.Record(), replace(record, load=2_000_000_001), replace(record, starting_water=1)):
+            for seconds in (0, 1, 368, 1_000_001, 2**64 - 1):
+                self.assertEqual(self.refusal(broken, seconds), 11, seconds)
+
+    def test_refused_as_the_step(self) -> None:
+        numbers: Dict[int, int] = {}
+        for text in makers.make_inputs("records", SEED + 3, 150):
+            script = lists.Script()
+            for line in text.decode().splitlines():
+                name, *words = line.split(" ")
+                if name == "step":
+                    after = script.record.copy()
+                    number = rules.step_call(after, int(words[0]))
+                    self.assertEqual(division.division_call(script.record, int(words[0]))[0], number, line)
+                    numbers[number] = numbers.get(number, 0) + 1
+                script.answer(line)
+        self.assertEqual(set(numbers), {0, 11, 13, 14, 15})
+
+    def test_curves(self) -> None:
+        falling = [(300, 10), (200, 30), (100, 31)]
+        for at, reading in ((300, (1, 10, 0)), (299, (1, 10, 20)), (296, (1, 10, 80)), (295, (1, 11, 0)),
+                            (201, (1, 29, 80)), (200, (1, 30, 0)), (199, (2, 30, 1)), (101, (2, 30, 99)),
+                            (100, (2, 31, 0))):
+            self.assertEqual(division.curve_reading(falling, at), reading, at)
+        rising = [(100, 5), (200, 5), (300, 9)]
+        for at, reading in ((100, (1, 5, 0)), (150, (1, 5, 0)), (200, (1, 5, 0)), (201, (2, 5, 4)), (251, (2, 7, 4)),
+                            (299, (2, 8, 96)), (300, (2, 9, 0))):
+            self.assertEqual(division.curve_reading(rising, at), reading, at)
+        for at in (99, 301):
+            with self.assertRaises(ValueError):
+                division.curve_reading(rising, at)
+
+    def layers(self, count: int) -> Iterator[rules.Record]:
+        """So many drawn layers, most of them as opened."""
+        index, found, affordable = 0, 0, makers.AFFORDABLE
+        makers.AFFORDABLE = 30
+        while found < count:
+            chance = Chance(SEED + 4, index)
+            record = makers.open_at_any_level(makers.made_job(chance, 60))[1]
+            if rules.is_layer(record):
+                if chance.one_in(3):
+                    makers.age_record(chance, record)
+                if chance.one_in(3):
+                    record.load = chance.between(0, record.first_points()[-1][0])
+                found += 1
+                yield record
+            index += 1
+        makers.AFFORDABLE = affordable
+
+    def test_drawn_layers(self) -> None:
+        accepted = exact = 0
+        for index, record in enumerate(self.layers(2_500)):
+            chance = Chance(SEED + 5, index)
+            for seconds in (makers.possible_step(record), chance.scaled(1, rules.STEP[1])):
+                faces = division.open_faces(record, seconds)
+                for face in faces:
+                    self.check_face(face, seconds)
+                    exact += face.remainder == 0 and face.flow != 0
+                accepted += self.check_call(record, seconds, faces)
+            self.check_curves(record)
+        self.assertGreater(accepted, 1_500)
+        self.assertGreater(exact, 30)
+
+    def check_face(self, face: division.Face, seconds: int) -> None:
+        """Identity, size and sign, and the cut."""
+        difference, resistance, flow, remainder = face
+        self.assertEqual(difference * seconds, flow * resistance + remainder)
+        self.assertLess(abs(remainder), resistance)
+        self.assertIn((remainder > 0) - (remainder < 0), (0, (difference > 0) - (difference < 0)))
+        self.assertEqual(flow, math.trunc(Fraction(difference * seconds, resistance)))
+
+    def check_call(self, record: rules.Record, seconds: int, faces: List[division.Face]) -> bool:
+        """The call gives just these faces, and its step moves just these flows; whether it is accepted."""
+        after = record.copy()
+        refusal, entries = division.division_call(record, seconds)
+        self.assertEqual(refusal, rules.step_call(after, seconds))
+        if refusal:
+            self.assertEqual(entries, [])
+            return False
+        self.assertEqual(entries, [(face.flow, face.remainder) for face in faces])
+        flows = [flow for flow, _ in entries]
+        bottom = flows.pop(0) if record.bottom is not None else 0
+        top = flows.pop() if record.top is not None else 0
+        self.assertEqual((after.bottom_outflow - record.bottom_outflow, after.top_outflow - record.top_outflow),
+                         (bottom, top))
+        below, above = [-bottom] + flows, flows + [top]
+        moved = [new - old for new, old in zip(after.water_heights(), record.water_heights())]
+        self.assertEqual(moved, [entering - leaving for entering, leaving in zip(below, above)])
+        return True
+
+    def check_curves(self, record: rules.Record) -> None:
+        """Both curves as every other call reads them, with remainders that are right and not below 0."""
+        layer = rules.Layer(record)
+        for void, stress, conductivity in division.element_readings(record):
+            self.assertEqual(stress.value, layer.compressibility.effective_stress(void))
+            self.assertEqual(conductivity.value, layer.permeability.conductivity(void))
+            first = [(point[1], point[0]) for point in record.first_points()]
+            for points, (segment, value, remainder) in ((first, stress), (record.second_points(), conductivity)):
+                (place_a, value_a), (place_b, value_b) = points[segment - 1:segment + 1]
+                whole = abs(place_b - place_a)
+                self.assertEqual((value_b - value_a) * abs(void - place_a), (value - value_a) * whole + remainder)
+                self.assertTrue(0 <= remainder < whole)
+                self.assertTrue(segment == 1 or void != place_a)
+
+    def worked(self, job: bytes, seconds: int, flows: int, remainders: int) -> Tuple[int, List[int], List[int]]:
+        """What a job and seconds give in two lists; all other places of both have to stay."""
+        lists_of = [7] * flows, [9] * remainders
+        number = division.flows_into(job, seconds, *lists_of)
+        count = max(0, number)
+        self.assertEqual([made[count:] for made in lists_of], [[7] * (flows - count), [9] * (remainders - count)])
+        return number, lists_of[0][:count], lists_of[1][:count]
+
+    def test_flows_of_a_job(self) -> None:
+        job = rules.job_bytes(specimen())
+        for rooms in ((2, 2), (2, 3), (129, 2), (200, 129)):
+            self.assertEqual(self.worked(job, 100, *rooms), (2, [922, 11_717], [81_882, 31_552]))
+        for rooms in ((0, 0), (1, 2), (2, 1), (1, 129), (129, 0)):
+            for seconds in (100, 0, 369, 2**64 - 1):
+                self.assertEqual(self.worked(job, seconds, *rooms), (-10, [], []))
+        for seconds, number in ((0, -13), (1_000_001, -13), (2**64 - 1, -13), (400, -14)):
+            self.assertEqual(self.worked(job, seconds, 2, 2), (number, [], []))
+        stopped = rules.job_bytes(specimen(table=[(0, 300_000_000)], end=999, budget=9))
+        self.assertEqual(self.worked(stopped, 367, 2, 2), (-15, [], []))
+        self.assertEqual(self.worked(rules.job_bytes(specimen(budget=0)), 100, 2, 2), (2, [0, 13_591], [0, 42_175]))
+        single = specimen(top=0, elements=self.DRY[:1], end=3_000_000_000, budget=1_000_000)
+        self.assertEqual(self.worked(rules.job_bytes(single), 1, 0, 0), (-13, [], []))
+        self.assertEqual(self.worked(rules.job_bytes(replace(single, end=2_999_999_999)), 1, 0, 0), (0, [], []))
+
+    def test_refused_jobs(self) -> None:
+        for cause, changes in Refusals.CHANGES.items():
+            for number, change in enumerate(changes):
+                job = specimen()
+                change(job)
+                for seconds in (0, 100, 2**64 - 1):
+                    for rooms in ((0, 0), (129, 129)):
+                        answer = self.worked(rules.job_bytes(job), seconds, *rooms)
+                        self.assertEqual(answer, (-cause, [], []), (cause, number))
+                    self.assertEqual(division.long_division(rules.job_bytes(job), seconds), b"refused %d\n" % cause)
+
+    def test_program(self) -> None:
+        job = rules.job_bytes(specimen())
+        numbers = [2, 2, 1_359_100, 147_319, 922, 81_882, 8_640_900, 73_744, 11_717, 31_552,
+                   2_000_000, 1_999_078, 200_000_000, 1, 5_000_000, 0, 1, 200_000, 0,
+                   1_986_409, 1_975_614, 198_640_900, 1, 6_359_100, 0, 1, 198_640, 90_000_000]
+        self.assertEqual(division.long_division(job, 100), struct.pack("<28q", *numbers))
+        swelling = division.long_division(rules.job_bytes(specimen(elements=self.DRY[:1], budget=0)), 100)
+        self.assertEqual(struct.unpack("<15q", swelling), (
+            1, 1, -40_000_000, 81_750, -48_929, -54_250,
+            1_500_000, 1_548_929, 150_000_000, 1, 55_000_000, 0, 1, 150_000, 0))
+        single = rules.job_bytes(specimen(top=0, elements=self.DRY[:1]))
+        self.assertEqual(division.long_division(single, 1)[:32], struct.pack("<4Q", 0, 1, 1_500_000, 1_500_000))
+        for seconds, number in ((0, 13), (1_000_001, 13), (400, 14)):
+            self.assertEqual(division.long_division(job, seconds), b"refused %d\n" % number)
+
+    def test_input_of_the_program(self) -> None:
+        job = rules.job_bytes(specimen())
+        whole = struct.pack("<Q", 160) + job + struct.pack("<Q", 0x1234)
+        for data, read in ((whole, (job, 0x1234)), (whole + b"more", (job, 0x1234)), (whole[:169], (job, 0x34)),
+                           (whole[:168], (job, 0)), (whole[:163], (job[:155], 0)), (b"", (b"", 0)),
+                           (b"\5", (b"", 0)), (bytes(8) + b"\7", (b"", 7)),
+                           (b"\xff" * 8 + b"x" * 8_192 + b"\2", (b"x" * 8_192, 2))):
+            self.assertEqual(division.read_input(data), read, len(data))
+        self.assertEqual(division.program_output(b""), b"refused 1\n")
+        self.assertEqual(division.program_output(struct.pack("<Q", 8_193) + job), b"refused 13\n")
+        self.assertEqual(division.program_output(struct.pack("<Q", 160) + job[:-1]), b"refused 4\n")
 
 
 class Runs(unittest.TestCase):

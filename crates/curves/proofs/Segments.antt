@@ -2,21 +2,28 @@
 use Prim.Native.Nat.{ℕ, suc, _+_, _≤_, _<_, min, max}
 use native.Mathlib.Numerals.{add-one}
 use native.Mathlib.Omega.{arith}
-use lib.Dec.{leb}
+use lib.Dec.{T, leb}
 use borrow.Author.Tests.{leb-true, leb-false}
 use lib.ListN.{getD, drop}
 use mathlib.Core.Bool.{Bool, true, false, _&&_}
 use mathlib.Core.List.{List}
-use mathlib.Core.Path.{_≡_, refl, sym, ap, _∙_}
+use mathlib.Core.Path.{_≡_, refl, sym, ap, subst, _∙_}
 use Rattle.laws.proofs.Segment.{spans-bounds, read-by-segment}
+use Rattle.laws.specs.Segment.{OnSegment}
 use Rattle.numbers.proofs.Filled.{length-tabulate, getD-tabulate}
 use Rattle.numbers.specs.Interpolation.{distance}
 use Rattle.numbers.proofs.Searches.{passed}
-use Rattle.rules.specs.Curve.{point, points, spans, interpolated, curveAt}
+use Rattle.rules.specs.Curve.{point, points, spans, interpolated, curveAt, segmentAt, isOn, valueOf}
 use Rattle.quantities.specs.Quantities.{stressLimits, voidLimits}
 use Rattle.quantities.specs.declared.CurveValue.the-variants.{On, Off}
 use Rattle.rules.proofs.Points.{at, from-segment, from-point, from-last, from-end}
+use Rattle.curves.specs.Named.{pointIn, ReadOn}
 use Rattle.curves.specs.Smooth.{Smooth}
+
+-- what is off the curve is not on it
+pub not-on : {A : Type 0} (y : ℕ) → Off ≡ On y → A
+unfolding isOn
+not-on y e = absurd (subst (λ v. T (isOn v)) (sym e) tt)
 
 module _ (x0 x1 x : ℕ) where
   -- whichever way a segment goes, it spans what lies between its abscissas
@@ -68,6 +75,26 @@ module _ (n : ℕ) (xs ys : List ℕ) (x i : ℕ) where
       go : (c : Bool) → leb n i ≡ c → curveAt (drop i (points n xs ys)) x ≡ Off
       go true e = rw (from-end n xs ys i (leb-true n i e))
       go false e = let k = leb-false n i e in rw (from-last n xs ys i (omega arith))
+
+  -- the same of the segment's number
+  pub found-here : i + 1 < n → spans (at n xs ys i) (at n xs ys (i + 1)) x ≡ true → segmentAt (points n xs ys) x ≡ i + segmentAt (drop i (points n xs ys)) x →
+      i ≡ segmentAt (points n xs ys) x
+  unfolding segmentAt
+  found-here h e so = let here : segmentAt (drop i (points n xs ys)) x ≡ 0 = rw (from-segment n xs ys i h, e, segmentAt) in omega (arith, so, here)
+
+  pub found-on : i + 1 < n → spans (at n xs ys i) (at n xs ys (i + 1)) x ≡ false →
+      segmentAt (points n xs ys) x ≡ i + segmentAt (drop i (points n xs ys)) x →
+      segmentAt (points n xs ys) x ≡ i + 1 + segmentAt (drop (i + 1) (points n xs ys)) x
+  unfolding segmentAt
+  found-on h e so =
+      let on : segmentAt (drop i (points n xs ys)) x ≡ suc (segmentAt (drop (i + 1) (points n xs ys)) x) =
+      rw (from-segment n xs ys i h, from-point n xs ys (i + 1) h, e, segmentAt) in
+      omega (arith, so, on)
+
+  -- a value that a segment gives names that segment
+  pub named : {y : ℕ} → OnSegment (pointIn xs ys i) (pointIn xs ys (i + 1)) x y → ReadOn xs ys x i (On y)
+  unfolding valueOf
+  named s = λ y e. subst (λ y. OnSegment (pointIn xs ys i) (pointIn xs ys (i + 1)) x y) (ap valueOf e) s
 
   -- any segment that spans x reads the curve
   pub read-any : {y : ℕ} → Smooth n xs ys → i + 1 < n → spans (at n xs ys i) (at n xs ys (i + 1)) x ≡ true →

@@ -1,2 +1,3 @@
 -- What the contracts of curves cite beside the rules.
 pub mod Smooth
+pub mod Named

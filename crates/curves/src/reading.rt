@@ -1,9 +1,12 @@
 // Reading a curve, falling or rising.
 ghost use mathlib.Core.Path.{_≡_};
 ghost use Prim.Native.Nat.{ℕ, _+_, _≤_, _<_};
+ghost use Rattle.curves.specs.Named.{ReadOn};
 ghost use Rattle.curves.specs.Smooth.{Smooth};
+ghost use Rattle.laws.specs.Segment.{OnSegment};
 ghost use Rattle.numbers.specs.Interpolation.{distance};
-ghost use Rattle.rules.specs.Curve.{point, points, spans, interpolated, curveAt, isOn, valueOf};
+ghost use Rattle.quantities.specs.declared.CurveValue.the-variants.{On};
+ghost use Rattle.rules.specs.Curve.{point, points, spans, curveAt, segmentAt, isOn, valueOf};
 ghost use Rattle.quantities.specs.Quantities.{stressLimits, voidLimits, curveLimits};
 use quantities::CurveValue;
 
@@ -29,7 +32,7 @@ pub fn interpolated(x0: u64, y0: u64, x1: u64, y1: u64, x: u64) -> u64
     requires { ⌜ (0 < distance x0 x1) × (distance x0 x ≤ voidLimits .most) ⌝ }
     requires { ⌜ (y0 ≤ y1) × (y1 ≤ stressLimits .most) ⌝ }
     requires { ⌜ distance x0 x ≤ distance x0 x1 ⌝ }
-    ensures { λ r. ⌜ r ≡ interpolated (point x0 y0) (point x1 y1) x ⌝ }
+    ensures { λ r. ⌜ OnSegment (point x0 y0) (point x1 y1) x r ⌝ }
 {
     y0 + numbers::share(y1 - y0, numbers::distance(x0, x), numbers::distance(x0, x1))
 }
@@ -39,6 +42,8 @@ pub fn read_from_first<'a>(count: usize, xs: &'a [u64; 64], ys: &'a [u64; 64], x
     requires { ⌜ (curveLimits .least ≤ count) × (count ≤ curveLimits .most) ⌝ }
     requires { ⌜ Smooth count (now xs) (now ys) ⌝ }
     ensures { λ r. ⌜ (r .value ≡ curveAt (points count (now (xs .entry)) (now (ys .entry))) x) × (r .segment + 1 < count) ⌝ }
+    ensures { λ r. ⌜ ReadOn (now (xs .entry)) (now (ys .entry)) x (r .segment) (r .value) ⌝ }
+    ensures { λ r. ⌜ ((y : ℕ) → r .value ≡ On y → r .segment ≡ segmentAt (points count (now (xs .entry)) (now (ys .entry))) x) ⌝ }
 {
     let mut i: usize = 0;
     while i + 1 < count {
@@ -63,6 +68,7 @@ pub fn read<'a>(count: usize, xs: &'a [u64; 64], ys: &'a [u64; 64], x: u64, hint
     requires { ⌜ (curveLimits .least ≤ count) × (count ≤ curveLimits .most) ⌝ }
     requires { ⌜ Smooth count (now xs) (now ys) ⌝ }
     ensures { λ r. ⌜ (r .value ≡ curveAt (points count (now (xs .entry)) (now (ys .entry))) x) × (r .segment + 1 < count) ⌝ }
+    ensures { λ r. ⌜ ReadOn (now (xs .entry)) (now (ys .entry)) x (r .segment) (r .value) ⌝ }
 {
     if hint < count - 1 {
         let x0 = xs[hint];

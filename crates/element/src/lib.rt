@@ -3,11 +3,12 @@ ghost use lib.IntN.{ℤ, pos, negℤ, _*ℤ_};
 ghost use mathlib.Core.Bool.{true};
 ghost use mathlib.Core.Path.{_≡_};
 ghost use Prim.Native.Nat.{_+_, _≤_, _<_};
-ghost use Rattle.element.specs.Elements.{elementOf};
+ghost use Rattle.curves.specs.Named.{ReadOn};
+ghost use Rattle.element.specs.Elements.{elementOf, OutwardCut};
 ghost use Rattle.laws.specs.Most.{mostBurden, mostExcess, mostDifference, mostResistance, mostFaceResistance, mostWeight};
 ghost use Rattle.laws.specs.Faces.{HeldWithin};
 ghost use Rattle.numbers.specs.Interval.{Within};
-ghost use Rattle.numbers.specs.Rounding.{cut};
+ghost use Rattle.numbers.specs.Quotients.{Cut, Left};
 ghost use Rattle.rules.specs.Curve.{points, compressibilitySound};
 ghost use Rattle.rules.specs.Layer.{skeletonOf, voidRatio, effectiveStress, buoyantWeight, sensitivity, excessUnder, resistanceWith};
 ghost use Rattle.rules.specs.Step.{outward};
@@ -43,6 +44,7 @@ pub fn effective_stress<'a>(
     requires { ⌜ (curveLimits .least ≤ (skeleton .points)) × ((skeleton .points) ≤ curveLimits .most) ⌝ }
     requires { ⌜ compressibilitySound (points (skeleton .points) (now void) (now stress)) ≡ true ⌝ }
     ensures { λ r. ⌜ (r .value ≡ effectiveStress (skeletonOf (points (skeleton .points) (now (void .entry)) (now (stress .entry)))) solids water) × (r .segment + 1 < (skeleton .points)) ⌝ }
+    ensures { λ r. ⌜ ReadOn (now (void .entry)) (now (stress .entry)) (voidRatio solids water) (r .segment) (r .value) ⌝ }
 {
     let ratio = void_ratio(solids, water);
     reading::read(skeleton.points, void, stress, ratio, hint)
@@ -89,9 +91,19 @@ pub fn flow(difference: i64, t: u64, resistance: u64) -> i64
     requires { ⌜ Within difference mostDifference ⌝ }
     requires { ⌜ t ≤ stepLimits .most ⌝ }
     requires { ⌜ (0 < resistance) × (resistance ≤ mostFaceResistance) ⌝ }
-    ensures { λ r. ⌜ r ≡ cut (difference *ℤ pos t) resistance ⌝ }
+    ensures { λ q. ⌜ Cut (difference *ℤ pos t) resistance q ⌝ }
 {
     numbers::cut(difference * t as i64, resistance as i64)
+}
+
+// What the division of that flow leaves.
+pub fn flow_remainder(difference: i64, t: u64, resistance: u64) -> i64
+    requires { ⌜ Within difference mostDifference ⌝ }
+    requires { ⌜ t ≤ stepLimits .most ⌝ }
+    requires { ⌜ (0 < resistance) × (resistance ≤ mostFaceResistance) ⌝ }
+    ensures { λ r. ⌜ Left (difference *ℤ pos t) resistance r ⌝ }
+{
+    numbers::remainder(difference * t as i64, resistance as i64)
 }
 
 // Out through an outer face: nothing if it is closed.
@@ -101,6 +113,7 @@ pub fn outward(face: Face, excess: i64, t: u64, resistance: u64) -> i64
     requires { ⌜ t ≤ stepLimits .most ⌝ }
     requires { ⌜ (0 < resistance) × (resistance ≤ mostResistance) ⌝ }
     ensures { λ r. ⌜ r ≡ outward face t (elementOf excess resistance 0) ⌝ }
+    ensures { λ r. ⌜ OutwardCut face excess t resistance r ⌝ }
 {
     match face {
         Face::Closed => 0,

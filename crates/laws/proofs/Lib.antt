@@ -4,6 +4,8 @@ pub mod Every
 pub mod Lengths
 -- curves
 pub mod Segment
+pub mod Interpolating
+pub mod OpenFaces
 pub mod Rising
 pub mod Reading
 pub mod Slope

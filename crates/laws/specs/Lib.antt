@@ -6,3 +6,4 @@ pub mod Amid
 pub mod Most
 pub mod Faces
 pub mod Shorten
+pub mod Divisions

@@ -146,7 +146,7 @@ module _ (r : Record) (is : isLayer r ≡ true) where
 
     -- ---- a step over these arrays is the rules'
 
-    elements-are : readElements (recordSite r) (recordState r) ≡ elementsIn n excess resistance (sensitivitiesIn r)
+    pub elements-are : readElements (recordSite r) (recordState r) ≡ elementsIn n excess resistance (sensitivitiesIn r)
     unfolding recordSite recordState
     elements-are =
         elements-in (recordSite r) (recordState r) n (first-length n solids) (first-length n water) excess resistance (sensitivitiesIn r)

@@ -40,7 +40,7 @@ use Rattle.rules.specs.declared.record.Record.{Record}
 -- ---- what a step answers
 
 module _ (site : Site) (s : State) (t : ℕ) where
-  by-refusal : (cause : Option Refusal) → stepRefusal site s t ≡ cause →
+  pub by-refusal : (cause : Option Refusal) → stepRefusal site s t ≡ cause →
       outcome site s (Step t) ≡ elim cause [ some cause ↦ refused cause | none ↦ record { answer = Done; events = stepTaken t ∷ [] } ]
   unfolding outcome
   by-refusal cause e =

@@ -10,7 +10,7 @@ use lib.Signed.{_≤ℤ_}
 use Rattle.numbers.specs.Rounding.{floor, ceil, cut, remainder}
 use Rattle.numbers.specs.Integers.{up, down}
 use Rattle.numbers.proofs.Signed.{signed, one-sided, add-parts, up-neg, down-neg, up-mul, down-mul, up-cut, down-cut}
-use Rattle.numbers.proofs.Signed.{natAbs-parts, natAbs-neg, natAbs-quot}
+use Rattle.numbers.proofs.Signed.{natAbs-parts, natAbs-quot, natAbs-rem}
 
 module _ {b : ℕ} (h : 0 < b) where
   -- ---- floor
@@ -76,8 +76,7 @@ natAbs-cut z b = natAbs-quot z (pos b)
 
 -- the absolute value of a remainder is the remainder of the absolute value
 pub natAbs-remainder : (z : ℤ) (b : ℕ) → natAbs (remainder z b) ≡ natAbs z % b
-natAbs-remainder (pos a) b = refl
-natAbs-remainder (negsuc a) b = natAbs-neg (pos (suc a % b))
+natAbs-remainder z b = natAbs-rem z (pos b)
 
 -- the cut of what is not negative is not negative
 pub cut-nonneg : (z : ℤ) (b : ℕ) → pos 0 ≤ℤ z → pos 0 ≤ℤ cut z b

@@ -1,15 +1,15 @@
 -- How bounds on integers go through sums, products and quotients.
 use Prim.Native.Nat.{ℕ, _+_, _*_, _^_, _≤_, _<_}
-use native.Mathlib.Nat.{le-refl, le-trans, mul-le-mul, div-le-self}
+use native.Mathlib.Nat.{le-refl, le-trans, mul-le-mul, div-le-self, mod-le}
 use native.Mathlib.Omega.{arith}
 use lib.Dec.{T, ltb, ltb→lt}
 use lib.IntN.{ℤ, pos, negℤ, natAbs, _+ℤ_, _-ℤ_, _*ℤ_}
-use lib.Signed.{quotZ}
+use lib.Signed.{quotZ, remZ}
 use mir.Syntax.{w64}
 use mir.Val.{SFits}
 use Rattle.numbers.specs.Rounding.{floor, cut}
 use Rattle.numbers.specs.Integers.{up, down}
-use Rattle.numbers.proofs.Signed.{signed, one-sided, add-parts, natAbs-parts, natAbs-neg, natAbs-mul, natAbs-quot}
+use Rattle.numbers.proofs.Signed.{signed, one-sided, add-parts, natAbs-parts, natAbs-neg, natAbs-mul, natAbs-quot, natAbs-rem}
 use Rattle.numbers.proofs.Division.{floor-mono, natAbs-cut}
 use Rattle.numbers.specs.Interval.{Within}
 
@@ -51,6 +51,10 @@ within-mul {a} {b} h k = record { bound = rw (natAbs-mul a b) (mul-le-mul (h .bo
 -- a quotient lies within the dividend's bound
 pub within-quot : {z : ℤ} {n : ℕ} (d : ℤ) → Within z n → Within (quotZ z d) n
 within-quot {z} d h = record { bound = rw (natAbs-quot z d) (le-trans (div-le-self (natAbs z) (natAbs d)) (h .bound)) }
+
+-- and so does what the quotient leaves
+pub within-rem : {z : ℤ} {n : ℕ} (d : ℤ) → Within z n → Within (remZ z d) n
+within-rem {z} d h = record { bound = rw (natAbs-rem z d) (le-trans (mod-le (natAbs z) (natAbs d)) (h .bound)) }
 
 -- and, cut by a positive number, within the floor of that bound
 pub within-cut : {z : ℤ} {n b : ℕ} → 0 < b → Within z n → Within (cut z b) (floor n b)

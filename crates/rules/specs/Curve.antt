@@ -1,7 +1,7 @@
 -- Curves: points, and straight lines between them, rounded down from the first point.
 -- On the compressibility curve the abscissa is the void ratio and the ordinate the effective stress, on the conductivity
 -- curve the void ratio and the conductivity. The load table has points of this form too, time and load; `Load` reads it.
-use Prim.Native.Nat.{ℕ, _+_, _-_, max, min}
+use Prim.Native.Nat.{ℕ, suc, _+_, _-_, _*_, _%_, max, min}
 use lib.Dec.{leb, ltb}
 use lib.ListN.{getD}
 use mathlib.Core.Bool.{Bool, true, false, _&&_}
@@ -35,12 +35,30 @@ unfoldable pub interpolated : Point → Point → ℕ → ℕ
 unfolding share
 interpolated a b x = a.ordinate + share (b.ordinate - a.ordinate) (distance a.abscissa x) (distance a.abscissa b.abscissa)
 
+-- what its division leaves
+unfoldable pub interpolationRemainder : Point → Point → ℕ → ℕ
+interpolationRemainder a b x = (b.ordinate - a.ordinate) * distance a.abscissa x % distance a.abscissa b.abscissa
+
 -- what a curve gives at x; outside its end points x is off the curve
 unfoldable pub curveAt : List Point → ℕ → CurveValue
 unfolding spans interpolated
 curveAt [] x = Off
 curveAt (a ∷ []) x = Off
 curveAt (a ∷ b ∷ rest) x = elim (spans a b x) [ true ↦ On (interpolated a b x) | false ↦ curveAt (b ∷ rest) x ]
+
+-- the first segment that spans x, counted from 0, as `curveAt` finds it
+unfoldable pub segmentAt : List Point → ℕ → ℕ
+unfolding spans
+segmentAt [] x = 0
+segmentAt (a ∷ []) x = 0
+segmentAt (a ∷ b ∷ rest) x = elim (spans a b x) [ true ↦ 0 | false ↦ suc (segmentAt (b ∷ rest) x) ]
+
+-- what the interpolation on it leaves
+unfoldable pub curveRemainder : List Point → ℕ → ℕ
+unfolding spans interpolationRemainder
+curveRemainder [] x = 0
+curveRemainder (a ∷ []) x = 0
+curveRemainder (a ∷ b ∷ rest) x = elim (spans a b x) [ true ↦ interpolationRemainder a b x | false ↦ curveRemainder (b ∷ rest) x ]
 
 unfoldable pub isOn : CurveValue → Bool
 isOn (On value) = true

@@ -3,6 +3,7 @@ pub mod Curve
 pub mod Layer
 pub mod Refusals
 pub mod Step
+pub mod Division
 pub mod Load
 pub mod Run
 pub mod Steady
@@ -18,3 +19,4 @@ pub mod Key
 pub mod Program
 pub mod Specimen
 pub mod Artesian
+pub mod LongDivision

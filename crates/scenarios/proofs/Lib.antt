@@ -1,2 +1,4 @@
 -- The proofs of `scenarios`.
 pub mod Fronts
+pub mod Divided
+pub mod Kept

@@ -1,5 +1,6 @@
 // Answers lists of calls and readings, works jobs and writes those of descriptions, all from files, and writes every answer, state, result
 // and job, for comparison with another program's.
+mod divisions;
 mod print;
 
 ghost use lib.ListN.{length as ListN·length};
@@ -96,7 +97,11 @@ fn read_list(fd: i32, number: u64, kind: u64, body: &[u8], count: usize) -> bool
     let mut words = [0u64; 96];
     read_calls(fd, count, &mut bytes, &mut words);
     let end = 3 * count;
-    answer_list(number, kind, body, &words[..end])
+    let calls = &words[..end];
+    match kind {
+        5 | 6 => divisions::answer_list(number, kind, body, calls),
+        _ => answer_list(number, kind, body, calls),
+    }
 }
 
 // Works a job in a buffer of so many bytes, and writes the number and the whole buffer; false where it is too long.
@@ -176,7 +181,7 @@ fn read_readings(fd: i32, body: &[u8], count: usize) -> bool {
 }
 
 // Answers a block whose body is read; false where it is not of the right form. Its kind: 0 a list on a job, 2 a job for the key, 3 a
-// description for its job, 4 readings of a record, any other a list on a record.
+// description for its job, 4 readings of a record, 5 a list with divisions on a job, 6 one on a record, any other a list on a record.
 fn answer_block(fd: i32, number: u64, kind: u64, body: &[u8], count: usize) -> bool
     requires { ⌜ ListN·length (now body) ≤ 8_192 ⌝ }
 {

@@ -27,7 +27,7 @@ module _ (c : tie.After-outward) where
 
   out-is : c .outward .result ≡ out
   unfolding out
-  out-is = simp (readBack (s .fits .excess)) at (c .outward .ensures)
+  out-is = simp (readBack (s .fits .excess)) at (c .outward .ensures .0)
 
   out-within : Within out mostFlow
   unfolding out

@@ -14,7 +14,10 @@ read-requires c κs = let s = c .before in (s .pre .1 .0, compressibility-smooth
 
 returns : tie.Need-returns
 unfolding effectiveStress
-returns c = (c .read .ensures .0 ∙ ap (curveAt (points _ _ _)) (c .before .void-ratio .ensures), c .read .ensures .1)
+returns c =
+    let ratio = c .before .void-ratio .ensures in
+    let (is, named) = c .read .ensures in
+    ((is .0 ∙ ap (curveAt (points _ _ _)) ratio, is .1), rw (← ratio) named)
 
 pub effective-stress-spec : {M : Type 1} → statement M
 effective-stress-spec = tie.close (tie.spec void-ratio-requires read-requires returns)

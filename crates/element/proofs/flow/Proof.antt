@@ -7,8 +7,8 @@ use mir.Syntax.{w64}
 use mir.Val.{SFits, toZ}
 use Rattle.laws.specs.Most.{mostFlow}
 use Rattle.numbers.specs.Interval.{Within}
-use Rattle.numbers.proofs.Interval.{within-mul, within-quot, within-le, within-pos, within-fits}
-use Rattle.numbers.specs.Rounding.{cut}
+use Rattle.numbers.proofs.Interval.{within-mul, within-le, within-pos, within-fits}
+use Rattle.numbers.specs.Quotients.{Cut}
 use Rattle.numbers.proofs.Signed.{signed, readBack, readUnsigned}
 use Rattle.quantities.specs.Quantities.{stepLimits}
 use Rattle.element.proofs.flow.Statement.{statement}
@@ -27,9 +27,6 @@ module _ (c : tie.Start) where
   product-fits : SFits w64 (c .args .difference *ℤ pos (c .args .t))
   product-fits = within-fits tt product
 
-  flow-fits : SFits w64 (cut (c .args .difference *ℤ pos (c .args .t)) (c .args .resistance))
-  flow-fits = within-fits tt (within-quot (pos (c .args .resistance)) product)
-
 cast-cut : tie.Need-cast-cut
 cast-cut c = search needs
 
@@ -47,9 +44,9 @@ cut-requires c κs =
 returns : tie.Need-returns
 returns c =
     let s = c .before in
-    let q : c .cut .result ≡ cut (s .args .difference *ℤ pos (s .args .t)) (s .args .resistance) =
-    simp (readBack (s .fits .difference), t-is s, readBack (product-fits s), resistance-is s) at (c .cut .ensures .quotient) in
-    rw (q, readBack (flow-fits s))
+    let is : Cut (s .args .difference *ℤ pos (s .args .t)) (s .args .resistance) (c .cut .result) =
+    simp (readBack (s .fits .difference), t-is s, readBack (product-fits s), resistance-is s) at (c .cut .ensures) in
+    rw (readBack {z = c .cut .result} (record { sfits = c .cut .ok })) is
 
 pub flow-spec : {M : Type 1} → statement M
 flow-spec = tie.close (tie.spec cast-cut mul-cut cast-cut-2 cut-requires returns)

@@ -124,7 +124,7 @@ loop-less c = omega arith
 loop-again : tie.Need-loop-again Inv-loop μ-loop
 loop-again c =
     let l = c .before .before .before .before .before .before in
-    let f = simp (readBack (p-fits l (j l) (omega arith)), readBack (p-fits l (j l + 1) (omega arith)), readBack (difference-fits l (omega arith))) at (c .flow .ensures) in
+    let f = simp (readBack (p-fits l (j l) (omega arith)), readBack (p-fits l (j l + 1) (omega arith)), readBack (difference-fits l (omega arith))) at (c .flow .ensures .quotient) in
     (omega arith, stored l (c .flow .result) (record { sfits = c .flow .ok }) (f ∙ sym (flow-inner _ _ _ _ _ (j l) (omega arith))))
 
 mul-outward : tie.Need-mul-outward Inv-loop μ-loop
@@ -163,7 +163,7 @@ returns : tie.Need-returns Inv-loop μ-loop
 returns c =
     let l = c .before .before .before .before in
     let e : j l + 1 ≡ s l .args .elements = omega arith in
-    let f = simp (readBack (p-fits l (j l) (omega arith))) at (c .outward .ensures) in
+    let f = simp (readBack (p-fits l (j l) (omega arith))) at (c .outward .ensures .0) in
     rw e at (stored l (c .outward .result) (record { sfits = c .outward .ok }) (f ∙ outward-same _ _ _ _ ∙ sym (flow-top _ _ _ _ _ (j l) e)))
 
 pub flows-above-spec : {M : Type 1} → statement M

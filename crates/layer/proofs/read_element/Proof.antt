@@ -44,7 +44,7 @@ value-of-requires c κs = search needs
 -- the values read
 stress-is : (c : tie.After-value-of) → let s = c .before .before .before .before in
     c .value-of .result ≡ valueOf (effectiveStress (skeletonOf (points (s .args .skeleton .points) (s .args .void .now) (s .args .stress .now))) (s .args .solids) (s .args .water))
-stress-is c = c .value-of .ensures ∙ ap valueOf (c .before .before .before .effective-stress .ensures .0)
+stress-is c = c .value-of .ensures ∙ ap valueOf (c .before .before .before .effective-stress .ensures .0 .0)
 
 excess-pressure-requires : tie.Need-excess-pressure-requires
 excess-pressure-requires c κs =
@@ -59,7 +59,7 @@ conductivity-is : (c : tie.After-value-of2) → let s = c .before .before .befor
 unfolding hydraulicConductivity
 conductivity-is c =
     let e = c .before .before .before .before .void-ratio .ensures in
-    c .value-of2 .ensures ∙ ap valueOf (c .before .before .before .read .ensures .0 ∙ ap (curveAt (points _ _ _)) e)
+    c .value-of2 .ensures ∙ ap valueOf (c .before .before .before .read .ensures .0 .0 ∙ ap (curveAt (points _ _ _)) e)
 
 resistance-requires : tie.Need-resistance-requires
 resistance-requires c κs =
@@ -75,7 +75,7 @@ returns c =
             ap (λ (σ : ℕ). pressure (s .args .load .0 +ℤ pos (s .args .burden) -ℤ pos σ)) (stress-is (c .before .before .before)),
         c .resistance .ensures ∙ ap (ceil (4_905 * (s .args .solids + s .args .water))) (conductivity-is (c .before)),
       ),
-      (c .before .before .before .before .before .before .effective-stress .ensures .1, c .before .before .before .before .read .ensures .1),
+      (c .before .before .before .before .before .before .effective-stress .ensures .0 .1, c .before .before .before .before .read .ensures .0 .1),
     )
 
 pub read-element-spec : {M : Type 1} → statement M

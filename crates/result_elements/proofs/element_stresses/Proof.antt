@@ -59,7 +59,7 @@ module _ (c : tie.After-value-of) where
   at-stress = c .before .before
 
   stress-is : c .value-of .result ≡ valueOf (effectiveStress (skeletonOf (curve at-stress)) (at-stress .args .solids) (at-stress .args .water))
-  stress-is = c .value-of .ensures ∙ ap valueOf (c .before .effective-stress .ensures .0)
+  stress-is = c .value-of .ensures ∙ ap valueOf (c .before .effective-stress .ensures .0 .0)
 
   effective-most : c .value-of .result ≤ stressLimits .most
   effective-most = rw stress-is (stress-most _ _ _ (at-stress .pre .1 .1 .0) _ _ _ _ (on at-stress))

@@ -60,7 +60,7 @@ is-on-requires c κs = tt
 returns : tie.Need-returns Inv-loop μ-loop
 returns c =
     let l = c .before .before .before .before .before .before in
-    let e = c .before .before .effective-stress .ensures in
+    let e = c .before .before .effective-stress .ensures .0 in
     index-fails (s l .args .elements) (test l) (j l) (l .loop .inv .1) (omega arith)
     (rw (e .0) at (sym (c .before .is-on .ensures) ∙ not-true _ (c .if1 .taken))) ∙ sym (each-on _ _ _ _)
 
@@ -73,7 +73,7 @@ loop-less c = omega arith
 loop-again : tie.Need-loop-again Inv-loop μ-loop
 loop-again c =
     let l = c .before .before .before .before .before .before in
-    let e = c .before .before .effective-stress .ensures in (
+    let e = c .before .before .effective-stress .ensures .0 in (
       omega arith,
       index-goes (s l .args .elements) (test l) (j l) (l .loop .inv .1) (omega arith)
           (rw (e .0) at (sym (c .before .is-on .ensures) ∙ not-false _ (c .if1 .left))),

@@ -1,6 +1,7 @@
 use Prim.Native.Nat.{_+_, _*_, _≤_}
 use native.Mathlib.Nat.{mul-le-mul}
 use Rattle.laws.specs.Bounds.{highestWater}
+use Rattle.numbers.proofs.Quotients.{floored-remains}
 use Rattle.quantities.specs.Quantities.{voidLimits, solidsLimits}
 use native.Mathlib.Omega.{arith}
 use borrow.Author.Needs.{needs}
@@ -24,7 +25,7 @@ floor-requires c κs = search needs
 
 returns : tie.Need-returns
 unfolding highestWater
-returns c = (c .floor .ensures .quotient, omega (arith, product (c .before), c .floor .ensures .remains))
+returns c = (c .floor .ensures .quotient, omega (arith, product (c .before), floored-remains (c .floor .ensures)))
 
 pub highest-water-spec : {M : Type 1} → statement M
 highest-water-spec = tie.close (tie.spec add-floor mul-floor sub-floor floor-requires returns)

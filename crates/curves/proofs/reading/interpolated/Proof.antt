@@ -1,9 +1,10 @@
-use Prim.Native.Nat.{ℕ, _+_, _-_, _*_, _≤_}
+use Prim.Native.Nat.{ℕ, _-_, _*_, _≤_}
 use native.Mathlib.Nat.{mul-le-mul}
-use mathlib.Core.Path.{_≡_, ap}
+use mathlib.Core.Path.{_≡_}
 use Rattle.numbers.specs.Interpolation.{distance, share}
 use Rattle.numbers.proofs.Shares.{interpolates}
-use Rattle.rules.specs.Curve.{interpolated}
+use Rattle.rules.specs.Curve.{point, interpolated}
+use Rattle.laws.proofs.Interpolating.{segment-divides}
 use Rattle.quantities.specs.Quantities.{stressLimits, voidLimits}
 use native.Mathlib.Omega.{arith}
 use borrow.Author.Needs.{needs}
@@ -38,14 +39,17 @@ share-requires c κs =
 
 shared : (c : tie.After-share) → let s = c .before .before .before in
     c .share .result ≡ share (s .args .y1 - s .args .y0) (part s) (distance (s .args .x0) (s .args .x1))
-shared c = rw (← c .before .before .distance .ensures, ← c .before .distance2 .ensures) (c .share .ensures)
+unfolding share
+shared c = rw (← c .before .before .distance .ensures, ← c .before .distance2 .ensures) (c .share .ensures .quotient)
 
 add-result : tie.Need-add-result
 add-result c = let s = c .before .before .before in omega (arith, within s, shared c)
 
 returns : tie.Need-returns
 unfolding interpolated
-returns c = let s = c .before .before .before in ap (λ (z : ℕ). s .args .y0 + z) (shared c)
+returns c =
+    let s = c .before .before .before in
+    rw (shared c) (segment-divides (point (s .args .x0) (s .args .y0)) (point (s .args .x1) (s .args .y1)) (s .args .x) (s .pre .0 .0))
 
 pub interpolated-spec : {M : Type 1} → statement M
 interpolated-spec =

@@ -1,6 +1,6 @@
 use native.Mathlib.Omega.{arith}
 use mathlib.Core.Path.{sym, _∙_}
-use Rattle.curves.proofs.Segments.{interpolable, read-any}
+use Rattle.curves.proofs.Segments.{interpolable, read-any, named}
 use borrow.Author.Needs.{needs}
 use Rattle.curves.proofs.reading.read.Statement.{statement}
 use Rattle.curves.proofs.reading.read.Tie as tie
@@ -52,7 +52,8 @@ returns c =
     let t = c .before .before .before .before in
     let s = t .before .before .before .before in
     let on = sym (t .spans .ensures _ _) ∙ c .before .before .before .if2 .taken in
-    (read-any _ _ _ (s .args .x) (s .args .hint) (s .pre .1) (omega arith) on (c .interpolated .ensures), omega arith)
+    let is = c .interpolated .ensures in
+    ((read-any _ _ _ (s .args .x) (s .args .hint) (s .pre .1) (omega arith) on (is .value), omega arith), named (s .args .count) (s .args .xs .now) (s .args .ys .now) (s .args .x) (s .args .hint) is)
 
 read-from-first-requires : tie.Need-read-from-first-requires
 read-from-first-requires c κs = search needs

@@ -1,21 +1,24 @@
-use Prim.Native.Nat.{_-_, _<_}
+use Prim.Native.Nat.{_+_, _-_, _<_}
+use native.Mathlib.Nat.{zero-add}
 use lib.ListN.{drop}
 use mathlib.Core.Path.{_≡_, refl, sym, _∙_}
-use Rattle.rules.specs.Curve.{points, spans, curveAt}
-use Rattle.curves.proofs.Segments.{interpolable, read-here, read-on, read-end}
+use Rattle.rules.specs.Curve.{points, curveAt, segmentAt}
+use Rattle.curves.proofs.Segments.{interpolable, read-here, read-on, read-end, found-here, found-on, named, not-on}
 use native.Mathlib.Omega.{arith}
 use borrow.Author.Needs.{needs}
 use Rattle.curves.proofs.reading.read_from_first.Statement.{statement}
 use Rattle.curves.proofs.reading.read_from_first.Tie as tie
 
 abbrev Inv-loop : tie.InvT-loop
-Inv-loop n xs ys x i₀ i = (i < 65) × (curveAt (drop i (points n xs ys)) x ≡ curveAt (points n xs ys) x)
+Inv-loop n xs ys x i₀ i =
+    (i < 65) × (curveAt (drop i (points n xs ys)) x ≡ curveAt (points n xs ys) x) ×
+    (segmentAt (points n xs ys) x ≡ i + segmentAt (drop i (points n xs ys)) x)
 
 abbrev μ-loop : tie.MeasureT-loop
 μ-loop n xs ys x i₀ i = n - i
 
 loop-holds : tie.Need-loop-holds Inv-loop μ-loop
-loop-holds c = (omega arith, refl)
+loop-holds c = (omega arith, refl, sym (zero-add _))
 
 add-loop : tie.Need-add-loop Inv-loop μ-loop
 add-loop c = omega arith
@@ -66,7 +69,10 @@ returns c =
     let l = t .before .before .before .before in
     let s = l .before in
     let on = sym (t .spans .ensures _ _) ∙ c .before .before .before .if1 .taken in
-    (read-here _ _ _ (s .args .x) (l .loop .i) (omega arith) on (c .interpolated .ensures) ∙ l .loop .inv .1, omega arith)
+    let is = c .interpolated .ensures in (
+      (read-here _ _ _ (s .args .x) (l .loop .i) (omega arith) on (is .value) ∙ l .loop .inv .1, omega arith),
+      (named (s .args .count) (s .args .xs .now) (s .args .ys .now) (s .args .x) (l .loop .i) is, λ _ _. found-here _ _ _ (s .args .x) (l .loop .i) (omega arith) on (l .loop .inv .2)),
+    )
 
 add-i : tie.Need-add-i Inv-loop μ-loop
 add-i c = omega arith
@@ -78,13 +84,16 @@ loop-again : tie.Need-loop-again Inv-loop μ-loop
 loop-again c =
     let l = c .before .before .before .before .before in
     let s = l .before in
-    let off = sym (c .before .spans .ensures _ _) ∙ c .if1 .left in
-    (omega arith, sym (read-on _ _ _ (s .args .x) (l .loop .i) (omega arith) off) ∙ l .loop .inv .1)
+    let off = sym (c .before .spans .ensures _ _) ∙ c .if1 .left in (
+      omega arith,
+      sym (read-on _ _ _ (s .args .x) (l .loop .i) (omega arith) off) ∙ l .loop .inv .1,
+      found-on _ _ _ (s .args .x) (l .loop .i) (omega arith) off (l .loop .inv .2),
+    )
 
 returns-2 : tie.Need-returns-2 Inv-loop μ-loop
 returns-2 c =
     let s = c .before .before in
-    (sym (read-end _ _ _ (s .args .x) (c .before .loop .i) (omega arith)) ∙ c .before .loop .inv .1, omega arith)
+    ((sym (read-end _ _ _ (s .args .x) (c .before .loop .i) (omega arith)) ∙ c .before .loop .inv .1, omega arith), (λ y e. not-on y e, λ y e. not-on y e))
 
 pub read-from-first-spec : {M : Type 1} → statement M
 read-from-first-spec =

@@ -186,7 +186,7 @@ loop-again c =
       excess-back (h s) (stands s) (j l) (omega (arith, inside r)) (here-is l),
       excess-back (h s) (stands s) (j l + 1) k (above-is r),
       readBack (apart-fits (h s) (stands s) (j l) k (here-is l) (above-is r)),
-    ) at (f .flow .ensures) in
+    ) at (f .flow .ensures .quotient) in
     let flow = told ∙ flow-is (h s) (stands s) (j l) k (here-is l) (above-is r) (s .args .top) in
     let range = simp (readBack {z = f .flow .result} (record { sfits = f .flow .ok })) at (c .with-flow .ensures) in (
       k,
@@ -212,7 +212,7 @@ returns c =
     let s = s₁ l in
     let k = l .loop .inv .0 in
     let e : j l + 1 ≡ n s = omega arith in
-    let told = simp (excess-back (h s) (stands s) (j l) k (here-is l)) at (o .outward .ensures) in
+    let told = simp (excess-back (h s) (stands s) (j l) k (here-is l)) at (o .outward .ensures .0) in
     let flow = told ∙ outward-is (h s) (stands s) (j l) k (here-is l) (s .args .top) ∙ sym (flow-out (s .args .top) (h s) (j l) e) in
     let range = simp (readBack {z = o .outward .result} (record { sfits = o .outward .ok })) at (c .with-flow2 .ensures) in
     range ∙ (λ i. withFlow (l .loop .inv .2 i) (flow i)) ∙ sym (extremes-more _ _ (j l)) ∙

@@ -1,0 +1,2 @@
+-- What the proofs of the job's flows cite.
+pub mod FlowLaws

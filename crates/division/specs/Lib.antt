@@ -1,0 +1,2 @@
+-- What the contracts of the job's flows cite beside the rules.
+pub mod JobFlows

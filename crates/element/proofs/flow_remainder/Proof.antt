@@ -1,0 +1,52 @@
+use native.Mathlib.Omega.{arith}
+use borrow.Author.Needs.{needs}
+use lib.Dec.{lit≤}
+use lib.IntN.{pos, _*ℤ_}
+use mathlib.Core.Path.{_≡_}
+use mir.Syntax.{w64}
+use mir.Val.{SFits, toZ}
+use Rattle.laws.specs.Most.{mostFlow}
+use Rattle.numbers.specs.Interval.{Within}
+use Rattle.numbers.proofs.Interval.{within-mul, within-le, within-pos, within-fits}
+use Rattle.numbers.specs.Quotients.{Left}
+use Rattle.numbers.proofs.Signed.{signed, readBack, readUnsigned}
+use Rattle.quantities.specs.Quantities.{stepLimits}
+use Rattle.element.proofs.flow_remainder.Statement.{statement}
+use Rattle.element.proofs.flow_remainder.Tie as tie
+
+module _ (c : tie.Start) where
+  t-is : toZ w64 (c .args .t) ≡ pos (c .args .t)
+  t-is = readUnsigned (c .args .t) (omega arith)
+
+  resistance-is : toZ w64 (c .args .resistance) ≡ pos (c .args .resistance)
+  resistance-is = readUnsigned (c .args .resistance) (omega arith)
+
+  product : Within (c .args .difference *ℤ pos (c .args .t)) mostFlow
+  product = within-mul (c .pre .0) (within-le {n = stepLimits .most} (within-pos (c .args .t)) (omega arith))
+
+  product-fits : SFits w64 (c .args .difference *ℤ pos (c .args .t))
+  product-fits = within-fits tt product
+
+cast-remainder : tie.Need-cast-remainder
+cast-remainder c = search needs
+
+mul-remainder : tie.Need-mul-remainder
+mul-remainder c = simp (readBack (c .fits .difference), t-is c) (product-fits c)
+
+cast-remainder-2 : tie.Need-cast-remainder-2
+cast-remainder-2 c = search needs
+
+remainder-requires : tie.Need-remainder-requires
+remainder-requires c κs =
+    simp (readBack (c .fits .difference), t-is c, readBack (product-fits c), resistance-is c)
+    (omega signed, within-le (product c) (lit≤ tt))
+
+returns : tie.Need-returns
+returns c =
+    let s = c .before in
+    let is : Left (s .args .difference *ℤ pos (s .args .t)) (s .args .resistance) (c .remainder .result) =
+    simp (readBack (s .fits .difference), t-is s, readBack (product-fits s), resistance-is s) at (c .remainder .ensures) in
+    rw (readBack {z = c .remainder .result} (record { sfits = c .remainder .ok })) is
+
+pub flow-remainder-spec : {M : Type 1} → statement M
+flow-remainder-spec = tie.close (tie.spec cast-remainder mul-remainder cast-remainder-2 remainder-requires returns)

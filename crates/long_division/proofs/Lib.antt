@@ -1,0 +1,2 @@
+-- What the proofs of the fifth program cite.
+pub mod Writing

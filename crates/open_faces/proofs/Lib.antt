@@ -1,0 +1,2 @@
+-- What the proofs of the faces cite.
+pub mod FacesAt

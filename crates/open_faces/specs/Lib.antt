@@ -1,0 +1,2 @@
+-- What the contracts of the faces cite beside the rules.
+pub mod Faces

@@ -1,0 +1,2 @@
+-- What the contracts of `scenarios` cite.
+pub mod Divisions
