@@ -3,7 +3,8 @@
  * A job describes a layer, its loading, an end time and a budget of steps. `consolidation_key` opens the layer, runs
  * it to the end or until the budget is used, and writes the key: what the layer is then. `consolidation_job` writes a
  * job from the numbers of a description. `consolidation_readings` compares piezometer readings with the pore pressures
- * of the layer that a job's run leaves.
+ * of the layer that a job's run leaves. `consolidation_flows` gives what a step would let flow through the faces of
+ * that layer, with what each division left; it is in a library of its own, libdivision.a, the others in libkey.a.
  *
  * Bytes
  *
@@ -122,6 +123,21 @@
  *
  * Signed numbers are in two's complement: `(int64_t)answers[4]`. Of a refused reading all but the first are 0, of a
  * missing one all but the second and the pore pressure.
+ *
+ * Flow
+ *
+ * Water flows through the faces between elements and through the drained ones of the top and the bottom. In a step of
+ * t seconds
+ *
+ *   difference x t = flow x R + remainder
+ *
+ * where the flow, nm, is the quotient cut toward zero. So the remainder, mPa s, is smaller than R in size, and 0 or of
+ * the difference's sign. The difference, mPa, is that of the excess pressures: at a face between two elements the lower
+ * one's minus the upper one's, so that a flow goes up; at the top and the bottom the element's minus what the face
+ * holds, so that a flow goes out. A flow below 0 goes the other way. R, mPa s/nm, is the face's resistance.
+ *
+ * The entries go from the bottom up: the bottom if it is drained, the N - 1 faces between elements, the top if it is
+ * drained. A closed face has none, so there are N - 1 to N + 1 of them.
  */
 #ifndef CONSOLIDATION_KEY_H
 #define CONSOLIDATION_KEY_H
@@ -133,7 +149,7 @@
 extern "C" {
 #endif
 
-/* Sizes, in bytes but for the most elements and points. */
+/* Sizes, in bytes but for the most elements, points and flows. */
 enum {
     CONSOLIDATION_JOB_HEAD = 48,
     CONSOLIDATION_JOB_PAIR = 16,
@@ -142,7 +158,8 @@ enum {
     CONSOLIDATION_MOST_ELEMENTS = 128,
     CONSOLIDATION_MOST_POINTS = 64,
     CONSOLIDATION_MOST_JOB_BYTES = 5168,
-    CONSOLIDATION_MOST_RESULT_BYTES = 5176
+    CONSOLIDATION_MOST_RESULT_BYTES = 5176,
+    CONSOLIDATION_MOST_FLOWS = 129
 };
 
 /* Where the numbers of a description stand, and how many there are. */
@@ -184,8 +201,11 @@ enum {
     ((size_t)48 + (size_t)16 * ((size_t)(elements) + (size_t)(curve1) + (size_t)(curve2) + (size_t)(table)))
 #define CONSOLIDATION_RESULT_BYTES(elements) ((size_t)56 + (size_t)40 * (size_t)(elements))
 
-/* Why a key, a job or an answer is withheld. Causes are tested in the order of their numbers, but 20 straight after 9
- * and 19 before 18, and the first that holds is the answer. */
+/* Flows of a job, from the bytes of one that is accepted. */
+#define CONSOLIDATION_FLOWS(job) ((size_t)(job)[7] - 1 + (size_t)(job)[5] + (size_t)(job)[6])
+
+/* Why a key, a job, an answer or a flow is withheld. Causes are tested in the order of their numbers, but 20 straight
+ * after 9 and 19 before 18, and the first that holds is the answer. */
 enum {
     CONSOLIDATION_DONE = 0,               /* no cause: the result is written */
     CONSOLIDATION_NO_JOB = 1,             /* fewer than 48 bytes, or they do not begin with LSC */
@@ -206,7 +226,15 @@ enum {
                                              start 1: the curve has no state of rest for an element, or the bottom
                                              is drained and its level is not the top's */
     CONSOLIDATION_SHORT_RESULT = 10,      /* result_length is less than the result has; of readings, answers_length
-                                             is less than the answers need */
+                                             is less than the answers need; of flows, flows_length or
+                                             remainders_length is less than there are flows */
+    CONSOLIDATION_BAD_STEP = 13,          /* of flows: the step is not 1 to 1,000,000 s long, or it would take the
+                                             clock past 3,000,000,000 s */
+    CONSOLIDATION_STEP_TOO_LONG = 14,     /* of flows: 2 x c x G x t is above R for an element and an inner or drained
+                                             face of it; c is 100,000,000 / solids and G the first curve's greatest
+                                             stress rise / void fall, each rounded up */
+    CONSOLIDATION_STEP_OFF_CURVE = 15,    /* of flows: the step would take an element's void ratio past an end of the
+                                             compressibility curve */
     CONSOLIDATION_SHORT_JOB = 17,         /* job_length is less than the job has */
     CONSOLIDATION_BAD_READING = 18,       /* a reading is not finite, or above 2,000 kPa or 200 m in size */
     CONSOLIDATION_BAD_ELEMENT = 19,       /* the element of a reading is not 1 to N */
@@ -313,6 +341,37 @@ uint64_t consolidation_job(const uint64_t *description, size_t words, uint8_t *j
  */
 uint32_t consolidation_readings(const uint8_t *job, size_t job_length, const uint64_t *readings,
                                 size_t readings_length, uint64_t *answers, size_t answers_length);
+
+/* Works the job and gives what flows through the faces of the layer that its run leaves, at the job's own end or where
+ * its run stopped, in a step of `seconds`, with what each division left. No step is taken: the flows are those of the
+ * layer as it stands, and they are refused as the step is.
+ *
+ * `job` has `job_length` bytes, which are read and not changed. Any bytes and any `seconds` will do. `flows` has
+ * `flows_length` numbers and `remainders` has `remainders_length`, which may be more than there are flows;
+ * CONSOLIDATION_MOST_FLOWS is always enough. No pointer may be null, whatever its length. The two must not overlap each
+ * other or the job. No pointer is kept.
+ *
+ * Returns the number of flows, 0 to 129: then so many numbers at the beginning of `flows` are the flows from the bottom
+ * up, as many at the beginning of `remainders` are what their divisions left, and those after them are as they were.
+ * One element between two closed faces has no flow, so 0 is no refusal. Otherwise it returns minus the number of the
+ * cause, and all of `flows` and `remainders` is as it was: 1 to 9 or 20, by the tests that `consolidation_key` makes;
+ * then 10, which is tested before the job is run; and last 13, 14 or 15, of the step. No other number is returned.
+ *
+ * Memory, state and threads are as for the key; it uses less than 40 KiB of stack. It takes the time of the key, and
+ * that of one step more.
+ *
+ * Example, of a step of 100 s:
+ *
+ *     int64_t flows[CONSOLIDATION_MOST_FLOWS], remainders[CONSOLIDATION_MOST_FLOWS];
+ *     int64_t count = consolidation_flows(job, length, 100, flows, CONSOLIDATION_MOST_FLOWS, remainders,
+ *                                         CONSOLIDATION_MOST_FLOWS);
+ *     if (count < 0)
+ *         fprintf(stderr, "refused %u\n", (unsigned)-count);
+ *     for (int64_t face = 0; face < count; face++)
+ *         printf("%lld nm, remainder %lld mPa s\n", (long long)flows[face], (long long)remainders[face]);
+ */
+int64_t consolidation_flows(const uint8_t *job, size_t job_length, uint64_t seconds, int64_t *flows,
+                            size_t flows_length, int64_t *remainders, size_t remainders_length);
 
 #ifdef __cplusplus
 }

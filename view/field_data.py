@@ -73,12 +73,17 @@ def shortened(text: str) -> str:
     return words if len(words) <= WIDEST else words[:WIDEST - 3] + "..."
 
 
-def read_element(text: str) -> int:
-    """The number of an element, which fits 64 bits; whether there is one the program decides."""
+def read_number(text: str, noun: str) -> int:
+    """A whole number that fits 64 bits, under the name of what it is."""
     digits = text.lstrip("0") or "0"
     if not re.fullmatch("[0-9]+", text) or len(digits) > 20 or int(digits) > U64_MAX:
-        raise BadReading("%s is no element: it is a whole number below 2^64, in digits alone" % shown(text))
+        raise BadReading("%s is no %s: it is a whole number below 2^64, in digits alone" % (shown(text), noun))
     return int(digits)
+
+
+def read_element(text: str) -> int:
+    """The number of an element; whether there is one the program decides."""
+    return read_number(text, "element")
 
 
 def read_value(element: int, text: str) -> Reading:

@@ -30,6 +30,10 @@ REFUSALS = {
     9: "an element has no start on the compressibility curve, or a start at rest is over a bottom whose level is not "
        "the top's",
     10: "the buffer is shorter than the result",
+    13: "the step is not 1 to 1,000,000 s long, or it would take the clock past 3,000,000,000 s",
+    14: "the step is too long: at an inner or drained face of an element 2 x c x G x t is above R, where c is "
+        "100,000,000 / solids and G the compressibility curve's greatest stress rise / void fall, each rounded up",
+    15: "the step would take an element's void ratio past an end of the compressibility curve",
     17: "the buffer is shorter than the job",
     18: "the reading is not finite, or above 2,000 kPa or 200 m in size",
     19: "the layer has no such element: they are 1 to N",

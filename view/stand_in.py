@@ -1,12 +1,12 @@
 """What the programs write, for tests: a double that asks the reference, and judges a start at rest over another level
-and a steady start by itself, from the paper."""
+and a steady start, and divides with a remainder, by itself, from the paper."""
 
 from __future__ import annotations
 
 import os
 import struct
 import sys
-from typing import List
+from typing import List, Sequence
 
 sys.path.append(os.path.join(os.path.dirname(os.path.dirname(os.path.abspath(__file__))), "reference"))
 
@@ -81,6 +81,65 @@ def key(job: bytes) -> bytes:
     return b"refused %d\n" % cause if cause else rules.key(as_given(job))[1]
 
 
+# ----------------------------------------------------------------------------------------------------------------
+# Long division
+# ----------------------------------------------------------------------------------------------------------------
+
+def curve_words(voids: Sequence[int], values: Sequence[int], void: int) -> List[int]:
+    """Segment, value and remainder of a curve at a void ratio; the first segment that has it counts."""
+    a = next(at for at in range(len(voids) - 1) if min(voids[at:at + 2]) <= void <= max(voids[at:at + 2]))
+    whole = abs(voids[a + 1] - voids[a])
+    quotient, remainder = divmod((values[a + 1] - values[a]) * abs(void - voids[a]), whole)
+    return [a + 1, values[a] + quotient, remainder]
+
+
+def face_words(layer: rules.Layer, p: Sequence[int], r: Sequence[int], seconds: int) -> List[List[int]]:
+    """Difference, R, flow and remainder of every inner or drained face, from the bottom up."""
+    faces = [] if layer.bottom is None else [(p[0] - layer.bottom, r[0])]
+    faces += [(p[j] - p[j + 1], r[j] + r[j + 1]) for j in range(len(p) - 1)]
+    faces += [] if layer.top is None else [(p[-1], r[-1])]
+    made = []
+    for difference, resistance in faces:
+        flow = toward_zero(difference * seconds, resistance)
+        made.append([difference, resistance, flow, difference * seconds - flow * resistance])
+    return made
+
+
+def element_words(record: rules.Record, after: rules.Record) -> List[List[int]]:
+    """Water before and after a step, void ratio, and both curves' readings of every element, lowest first."""
+    stresses, voids = zip(*record.first_points())
+    conductivity_voids, conductivities = zip(*record.second_points())
+    made = []
+    for solids, water, left in zip(record.solid_heights(), record.water, after.water):
+        void = water * 100_000_000 // solids
+        made.append([water, left, void, *curve_words(voids, stresses, void),
+                     *curve_words(conductivity_voids, conductivities, void)])
+    return made
+
+
+def division(_program: str, data: bytes) -> bytes:
+    """What the program that divides writes of a job and the seconds of a step."""
+    length = int.from_bytes(data[:8], "little")
+    job, step = data[8:8 + length], data[8 + length:]
+    assert len(job) == length <= 8_192 and len(step) == 8
+    seconds = int.from_bytes(step, "little")
+    cause, record = rules.open_job(job)
+    if cause == 0:
+        parts = rules.read_job(job)
+        rules.run_call(record, parts.end, parts.budget)
+        after = record.copy()
+        cause = rules.step_call(after, seconds)
+    if cause:
+        return b"refused %d\n" % cause
+    layer = rules.Layer(record)
+    faces, elements = face_words(layer, *layer.read(record.load, record.water), seconds), element_words(record, after)
+    words = [len(faces), len(elements)] + [word for row in faces + elements for word in row]
+    return struct.pack("<%dq" % len(words), *words)
+
+
 if __name__ == "__main__":
     given = sys.stdin.buffer.read()
-    sys.stdout.buffer.write(key(given) if sys.argv[1:] == ["key"] else composed("", given))
+    if sys.argv[1:] == ["division"]:
+        sys.stdout.buffer.write(division("", given))
+    else:
+        sys.stdout.buffer.write(key(given) if sys.argv[1:] == ["key"] else composed("", given))
