@@ -1,4 +1,7 @@
 // From a description to an accepted layer, with no bytes: the causes 3, 5 to 9 and 20.
+
+#![tactic(auto)]
+
 ghost use Rattle.std.specs.Prelude.{pos, length, true, ◌≡◌};
 ghost use Rattle.std.proofs.Math.Option.{none};
 ghost use Rattle.acceptance.specs.Accepting.{accepted_burden};

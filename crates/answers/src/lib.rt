@@ -1,4 +1,7 @@
 // Answers, causes and stops as the paper's numbers, and the line that says a refusal.
+
+#![tactic(auto)]
+
 ghost use Rattle.std.specs.Prelude.{length, ◌≡◌, ◌≤◌, ◌<◌};
 ghost use Rattle.numbers.specs.Arrays.{overlaid};
 ghost use Rattle.rules.specs.Outcome.{answer_number};

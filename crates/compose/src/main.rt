@@ -1,4 +1,7 @@
 // Reads a description's words on standard input and writes its job, or the refusal.
+
+#![tactic(auto)]
+
 ghost use Rattle.std.specs.Prelude.{length, ◌≡◌};
 ghost use Rattle.compose.specs.Composed.{job_most, composed};
 ghost use Rattle.numbers.specs.Arrays.{overlaid, zeros};

@@ -1,4 +1,7 @@
 // Reads a job on standard input and writes its key, or the refusal.
+
+#![tactic(auto)]
+
 ghost use Rattle.std.specs.Prelude.{length, ◌≡◌, ◌≤◌};
 ghost use Rattle.numbers.specs.Arrays.{overlaid, zeros};
 ghost use Rattle.rules.specs.Program.{input_most, program_output};

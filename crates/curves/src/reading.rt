@@ -11,7 +11,7 @@ ghost use Rattle.quantities.specs.Quantities.{stress_limits, void_limits, curve_
 use quantities::CurveValue;
 
 // What a reading found, and the segment where it looked last: a hint for the next reading.
-#[derive(Drop)]
+#[derive(Clone, Copy)]
 pub struct Found {
     pub value: CurveValue,
     pub segment: usize,

@@ -12,7 +12,7 @@ use rules::answers::Refusal;
 use rules::job::Header;
 
 // The levels of a sound description, or the cause for which it is refused.
-#[derive(Drop)]
+#[derive(Clone, Copy)]
 pub enum Checked {
     Sound(Head, Head),
     Refused(Refusal),

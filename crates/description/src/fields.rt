@@ -9,7 +9,7 @@ use record_parts::sizes;
 use rules::job::Header;
 
 // The levels of a description whose fields keep their limits and are 0 where they must be, or that some do not.
-#[derive(Drop)]
+#[derive(Clone, Copy)]
 pub enum Fields {
     Within(Head, Head),
     Outside,

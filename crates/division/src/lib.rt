@@ -1,4 +1,7 @@
 // Flows with what the division left, of the layer that a job's run leaves.
+
+#![tactic(auto)]
+
 ghost use Rattle.std.specs.Prelude.{length, true, ◌≡◌, ◌≤◌};
 ghost use Rattle.division.specs.JobFlows.{job_run, minus_number, call_flows, run_to_flows, job_flows};
 ghost use Rattle.record_flows.specs.Dividing.{entry_count};

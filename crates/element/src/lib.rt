@@ -1,4 +1,7 @@
 // One element: what is read of it, and the flows through its faces.
+
+#![tactic(auto)]
+
 ghost use Rattle.std.specs.Prelude.{ℤ, pos, neg_ℤ, ◌*ℤ◌, true, ◌≡◌, ◌+◌, ◌≤◌, ◌<◌};
 ghost use Rattle.curves.specs.Named.{ReadOn};
 ghost use Rattle.element.specs.Elements.{element_of, OutwardCut};

@@ -1,4 +1,7 @@
 // Field data: readings by their words, three each, and their answers by a layer's result, five words each.
+
+#![tactic(auto)]
+
 ghost use Rattle.std.specs.Prelude.{length, ◌≡◌, ◌+◌, ◌*◌, ◌/◌, ◌≤◌, ◌<◌};
 ghost use Rattle.std.proofs.lemmas.List.Edits.{sets};
 ghost use Rattle.field_data.specs.Words.{reading_of, numbers_words, elements_in, pore_in, Told, compared_in, answer_in, answers_in};

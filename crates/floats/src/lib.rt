@@ -1,4 +1,7 @@
 // The exact value of a 32-bit float in another unit, from its bits.
+
+#![tactic(auto)]
+
 ghost use Rattle.std.specs.Prelude.{T, ◌≡◌, ◌-◌, ◌*◌, ◌/◌, ◌^◌, ◌≤◌, ◌<◌};
 ghost use Rattle.std.specs.Float.{binary32};
 ghost use Rattle.std.specs.Float.Ieee.{to_bits};

@@ -1,4 +1,7 @@
 // The flows of a layer.
+
+#![tactic(auto)]
+
 ghost use Rattle.std.specs.Prelude.{pos, neg_ℤ, length, get_or, ◌≡◌, ◌+◌, ◌≤◌, ◌<◌};
 ghost use Rattle.element.specs.Elements.{Readable, flow_above, element_of};
 ghost use Rattle.laws.specs.Faces.{HeldWithin};

@@ -11,7 +11,7 @@ use rules::answers::Refusal;
 use rules::job::Header;
 
 // The header of a job that may be read, or the cause for which it is refused.
-#[derive(Drop)]
+#[derive(Clone, Copy)]
 pub enum Framed {
     Sound(Header),
     Refused(Refusal),

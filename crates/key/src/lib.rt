@@ -1,4 +1,7 @@
 // The key: from a job's bytes to the result's.
+
+#![tactic(auto)]
+
 ghost use Rattle.std.specs.Prelude.{length, true, ◌≡◌, ◌≤◌};
 ghost use Rattle.lent.specs.Burdens.{burdens_in};
 ghost use Rattle.key.specs.Water.{water_run};

@@ -1,4 +1,7 @@
 // What a step reads of an element, and of all elements.
+
+#![tactic(auto)]
+
 ghost use Rattle.std.specs.Prelude.{length, ◌≡◌, ◌+◌, ◌≤◌, ◌<◌};
 ghost use Rattle.layer.specs.Held.{Held, held_of, excess_at, resistance_at, Stands};
 ghost use Rattle.layer.specs.Segments.{Segments};
@@ -14,7 +17,7 @@ use quantities::Pressure;
 use rules::record::{CurveCounts, Skeleton};
 
 // An element as read, with the segments of both curves where it was found.
-#[derive(Drop)]
+#[derive(Clone, Copy)]
 pub struct Read {
     pub excess: Pressure,
     pub resistance: u64,

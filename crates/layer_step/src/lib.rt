@@ -1,4 +1,7 @@
 // A step over arrays: the longest that is not too long, and moving the water.
+
+#![tactic(auto)]
+
 ghost use Rattle.std.specs.Prelude.{ℤ, length, get_or, true, List, ◌≡◌, ℕ, ◌-◌, ◌≤◌, ◌<◌};
 ghost use Rattle.element.specs.Elements.{Readable, flow_above};
 ghost use Rattle.laws.specs.Bounds.{lowest_water, highest_water};
@@ -16,7 +19,7 @@ use rules::answers::Stop;
 use rules::record::Skeleton;
 
 // What a step gives: the flows up through the bottom and up through the top, or that it leaves the curve.
-#[derive(Drop)]
+#[derive(Clone, Copy)]
 pub enum Moved {
     Flows(i64, i64),
     Leaves,
@@ -58,7 +61,7 @@ pub fn advance<'a>(
 
 // What the longest step gives: the stop where none is taken, or its seconds with the flows up through the bottom and up through the
 // top.
-#[derive(Drop)]
+#[derive(Clone, Copy)]
 pub enum Longest {
     NoneTaken(Stop),
     Taken(u64, i64, i64),

@@ -1,4 +1,7 @@
 // Whether any record is a layer.
+
+#![tactic(auto)]
+
 ghost use Rattle.std.specs.Prelude.{true, ◌&&◌, ◌≡◌};
 ghost use Rattle.quantities.specs.Quantities.{within, within_ℤ, stress_limits, clock_limits, starting_water_limits, outflow_within};
 ghost use Rattle.rules.specs.Record.{site_sound, state_sound, is_layer};

@@ -1,4 +1,7 @@
 // One step of t seconds on a layer that is lent by its parts. All is read before anything moves.
+
+#![tactic(auto)]
+
 ghost use Rattle.std.specs.Prelude.{length, true, ◌≡◌, ◌+◌};
 ghost use Rattle.rules.specs.Calls.{called};
 ghost use Rattle.quantities.specs.Quantities.{within, step_limits, clock_limits};
@@ -16,7 +19,7 @@ use rules::record::{CurveCounts, Frame, Progress, Skeleton};
 pub mod reading;
 
 // What a step answers: the layer's progress after it, or a refusal.
-#[derive(Drop)]
+#[derive(Clone, Copy)]
 pub enum Stepped {
     Done(Progress),
     Refused(Refusal),

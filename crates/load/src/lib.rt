@@ -1,4 +1,7 @@
 // Load: sets a load until a load or a run sets another.
+
+#![tactic(auto)]
+
 ghost use Rattle.std.specs.Prelude.{◌≡◌};
 ghost use Rattle.rules.specs.Calls.{called, called_numbers};
 ghost use Rattle.rules.specs.Outcome.{answer_numbers};

@@ -1,5 +1,8 @@
 // Reads a job and a step's seconds on standard input and writes the working of that step on the layer that the job's run leaves, or the
 // refusal.
+
+#![tactic(auto)]
+
 ghost use Rattle.std.specs.Prelude.{length, ◌≡◌, ◌≤◌, min};
 ghost use Rattle.long_division.specs.DivisionOutput.{working_most, worked_output, division_output};
 ghost use Rattle.numbers.specs.Arrays.{overlaid};

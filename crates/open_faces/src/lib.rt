@@ -1,4 +1,7 @@
 // The inner and drained faces of a layer, and the long division of a step at each: the flow, and what it leaves.
+
+#![tactic(auto)]
+
 ghost use Rattle.std.specs.Prelude.{length, get_or, ◌≡◌, ◌≤◌, ◌<◌};
 ghost use Rattle.element.specs.Elements.{Readable, element_of};
 ghost use Rattle.laws.specs.Divisions.{no_face};

@@ -1,4 +1,7 @@
 // Opening a job's bytes into arrays.
+
+#![tactic(auto)]
+
 ghost use Rattle.std.specs.Prelude.{length, ◌≡◌};
 ghost use Rattle.job.specs.Pairs.{Blank, Pairs};
 ghost use Rattle.opening.specs.Opened.{opened_job, left_description, left_burden};
@@ -10,7 +13,7 @@ use rules::job::Header;
 use rules::record::{Frame, Progress};
 
 // What an opened job gives beside its arrays: its header and the numbers of its layer, or a refusal.
-#[derive(Drop)]
+#[derive(Clone, Copy)]
 pub enum Opened {
     Accepted(Header, Frame, Progress),
     Refused(Refusal),

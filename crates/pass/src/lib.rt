@@ -1,4 +1,7 @@
 // One pass of a run: the table's load is set, the layer is read, and the longest step within reach is taken.
+
+#![tactic(auto)]
+
 ghost use Rattle.std.specs.Prelude.{length, true, ◌≡◌, ◌≤◌, ◌<◌};
 ghost use Rattle.layer.specs.Segments.{Segments};
 ghost use Rattle.lent.specs.Worked.{WorkedOut, excesses_in, resistances_in};
@@ -14,7 +17,7 @@ use rules::answers::Stop;
 use rules::record::{CurveCounts, Frame, Progress};
 
 // What a pass gives: its stop with the layer's progress under the table's load, or the progress after its step.
-#[derive(Drop)]
+#[derive(Clone, Copy)]
 pub enum Passed {
     Stops(Stop, Progress),
     Goes(Progress),

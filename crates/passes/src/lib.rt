@@ -1,4 +1,7 @@
 // The loop of a run: pass after pass, each under the table's load at its clock.
+
+#![tactic(auto)]
+
 ghost use Rattle.std.specs.Prelude.{length, true, ◌≡◌, ◌≤◌};
 ghost use Rattle.lent.specs.Worked.{WorkedOut};
 ghost use Rattle.quantities.specs.Quantities.{clock_limits, budget_limits};

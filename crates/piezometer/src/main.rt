@@ -1,4 +1,7 @@
 // Reads a job and readings on standard input and writes the answers to them, or the refusal.
+
+#![tactic(auto)]
+
 ghost use Rattle.std.specs.Prelude.{length, ◌≡◌, ◌*◌, ◌≤◌, min};
 ghost use Rattle.key.specs.Readings.{job_readings};
 ghost use Rattle.numbers.specs.Arrays.{overlaid};

@@ -8,7 +8,7 @@ ghost use Rattle.quantities.specs.Quantities.{curve_limits, limits_of};
 use quantities::Kind;
 
 // How points follow one another: on the compressibility curve, on the conductivity curve, in the load table.
-#[derive(Drop)]
+#[derive(Clone, Copy)]
 pub enum Trend {
     Falls,
     Rises,

@@ -1,4 +1,7 @@
 // The pore pressure of one element of a layer.
+
+#![tactic(auto)]
+
 ghost use Rattle.std.specs.Prelude.{get_or, true, ◌≡◌, ℕ, ◌+◌, ◌≤◌, ◌<◌};
 ghost use Rattle.layer.specs.Soil.{OnSoil};
 ghost use Rattle.numbers.specs.Arrays.{first_places};

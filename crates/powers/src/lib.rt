@@ -1,4 +1,7 @@
 // The powers of two from 0 to 54.
+
+#![tactic(auto)]
+
 ghost use Rattle.std.specs.Prelude.{◌≡◌, ◌≤◌, ◌^◌};
 
 const POWERS: [u64; 55] = [

@@ -1,4 +1,7 @@
 // The kinds of quantity, with their limits and what tests them.
+
+#![tactic(auto)]
+
 ghost use Rattle.std.specs.Prelude.{◌≡◌, ◌≤◌};
 ghost use Rattle.numbers.specs.Interval.{Within};
 ghost use Rattle.quantities.specs.Quantities.{within, within_ℤ, stress_limits, void_limits, conductivity_limits, level_limits, clock_limits, solids_limits, water_limits, step_limits, budget_limits, gravity_limits, element_limits, curve_limits, table_limits, flag_limits, start_limits, starting_water_limits, limits_of, outflow_within, pressure_of, from◌to◌};
@@ -22,10 +25,10 @@ pub fn within_signed(least: u64, most: u64, z: i64) -> bool
 }
 
 // A length in nanometres: a level, or a head of water, which is a difference of levels.
-#[derive(Drop)]
+#[derive(Clone, Copy)]
 pub struct Head(pub i64);
 
-#[derive(Drop)]
+#[derive(Clone, Copy)]
 pub enum TestedHead {
     Within(Head),
     Outside,
@@ -70,10 +73,10 @@ impl Head {
 }
 
 // A stress or a pressure in millipascals.
-#[derive(Drop)]
+#[derive(Clone, Copy)]
 pub struct Pressure(pub i64);
 
-#[derive(Drop)]
+#[derive(Clone, Copy)]
 pub enum TestedPressure {
     Within(Pressure),
     Outside,
@@ -110,10 +113,10 @@ impl Pressure {
 }
 
 // A void ratio in hundred-millionths.
-#[derive(Drop)]
+#[derive(Clone, Copy)]
 pub struct Void(pub u64);
 
-#[derive(Drop)]
+#[derive(Clone, Copy)]
 pub enum TestedVoid {
     Within(Void),
     Outside,
@@ -145,10 +148,10 @@ impl Void {
 }
 
 // A time in seconds since the opening.
-#[derive(Drop)]
+#[derive(Clone, Copy)]
 pub struct Clock(pub u64);
 
-#[derive(Drop)]
+#[derive(Clone, Copy)]
 pub enum TestedClock {
     Within(Clock),
     Outside,
@@ -177,7 +180,7 @@ impl Clock {
 }
 
 // A hydraulic conductivity in femtometres per second.
-#[derive(Drop)]
+#[derive(Clone, Copy)]
 pub struct Conductivity(pub u64);
 
 impl Conductivity {
@@ -193,7 +196,7 @@ impl Conductivity {
 }
 
 // The solids height of an element in nanometres.
-#[derive(Drop)]
+#[derive(Clone, Copy)]
 pub struct Solids(pub u64);
 
 impl Solids {
@@ -209,7 +212,7 @@ impl Solids {
 }
 
 // The water height of an element in nanometres.
-#[derive(Drop)]
+#[derive(Clone, Copy)]
 pub struct Water(pub u64);
 
 impl Water {
@@ -226,7 +229,7 @@ impl Water {
 }
 
 // The length of a step in seconds.
-#[derive(Drop)]
+#[derive(Clone, Copy)]
 pub struct Seconds(pub u64);
 
 impl Seconds {
@@ -242,7 +245,7 @@ impl Seconds {
 }
 
 // The most steps that a run may take.
-#[derive(Drop)]
+#[derive(Clone, Copy)]
 pub struct Budget(pub u64);
 
 impl Budget {
@@ -258,7 +261,7 @@ impl Budget {
 }
 
 // A specific gravity in thousandths.
-#[derive(Drop)]
+#[derive(Clone, Copy)]
 pub struct Gravity(pub u64);
 
 impl Gravity {
@@ -274,7 +277,7 @@ impl Gravity {
 }
 
 // How many elements a layer has.
-#[derive(Drop)]
+#[derive(Clone, Copy)]
 pub struct Elements(pub u64);
 
 impl Elements {
@@ -290,7 +293,7 @@ impl Elements {
 }
 
 // How many points a curve has.
-#[derive(Drop)]
+#[derive(Clone, Copy)]
 pub struct CurvePoints(pub u64);
 
 impl CurvePoints {
@@ -306,7 +309,7 @@ impl CurvePoints {
 }
 
 // How many points a load table has.
-#[derive(Drop)]
+#[derive(Clone, Copy)]
 pub struct TablePoints(pub u64);
 
 impl TablePoints {
@@ -322,7 +325,7 @@ impl TablePoints {
 }
 
 // A byte that says no or yes.
-#[derive(Drop)]
+#[derive(Clone, Copy)]
 pub struct Flag(pub u64);
 
 impl Flag {
@@ -338,7 +341,7 @@ impl Flag {
 }
 
 // Where the water of a layer comes from: 0 as given, 1 at rest, 2 given and steady.
-#[derive(Drop)]
+#[derive(Clone, Copy)]
 pub struct Start(pub u64);
 
 impl Start {
@@ -358,7 +361,7 @@ impl Start {
 }
 
 // All water of a layer as it was opened, in nanometres.
-#[derive(Drop)]
+#[derive(Clone, Copy)]
 pub struct StartingWater(pub u64);
 
 impl StartingWater {
@@ -375,7 +378,7 @@ impl StartingWater {
 }
 
 // What has flowed out through an outer face since the opening, in nanometres.
-#[derive(Drop)]
+#[derive(Clone, Copy)]
 pub struct Outflow(pub i64);
 
 impl Outflow {
@@ -393,7 +396,7 @@ impl Outflow {
 }
 
 // The kinds of quantity that arrays hold. A field that must be 0 is a kind of its own.
-#[derive(Drop)]
+#[derive(Clone, Copy)]
 pub enum Kind {
     Stress,
     Void,
@@ -431,14 +434,14 @@ impl Kind {
 }
 
 // An outer face of the layer. A drained one holds a pressure.
-#[derive(Drop)]
+#[derive(Clone, Copy)]
 pub enum Face {
     Closed,
     Drained(Pressure),
 }
 
 // What a curve gives at an abscissa: its ordinate, or nothing off the curve.
-#[derive(Drop)]
+#[derive(Clone, Copy)]
 pub enum CurveValue {
     On(u64),
     Off,

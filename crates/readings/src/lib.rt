@@ -1,4 +1,7 @@
 // A piezometer's reading, and its exact value in whole numbers.
+
+#![tactic(auto)]
+
 ghost use Rattle.std.specs.Float.{binary32};
 ghost use Rattle.std.specs.Float.Ieee.{to_bits};
 ghost use Rattle.std.specs.Prelude.{◌≡◌};
@@ -7,7 +10,7 @@ ghost use Rattle.readings.specs.Conversion.{of_pressure, of_column, conversion};
 use quantities::{Head, Pressure};
 
 // A pressure in kilopascals, a water column in metres, or missing.
-#[derive(Drop)]
+#[derive(Clone, Copy)]
 pub enum Reading {
     Pressure(f32),
     Column(f32),
@@ -15,11 +18,11 @@ pub enum Reading {
 }
 
 // The exact value of a reading, cut toward zero: millipascals of a pressure, nanometres of a column.
-#[derive(Drop)]
+#[derive(Clone, Copy)]
 pub struct Exact(pub i64);
 
 // A reading in whole numbers: its exact value and the pressure that it is; missing; or refused, as it is not finite or too great.
-#[derive(Drop)]
+#[derive(Clone, Copy)]
 pub enum Converted {
     Value(Exact, Pressure),
     Missing,

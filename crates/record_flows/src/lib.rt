@@ -1,4 +1,7 @@
 // Flows with what the division left: the long division of a step at every inner or drained face of a record. No step is taken.
+
+#![tactic(auto)]
+
 ghost use Rattle.std.specs.Prelude.{length, true, ◌≡◌, ◌≤◌};
 ghost use Rattle.numbers.specs.Arrays.{overlaid};
 ghost use Rattle.quantities.specs.Quantities.{step_limits};
@@ -12,7 +15,7 @@ use rules::answers::{Answer, Refusal};
 use rules::record::Record;
 
 // What the call answers: how many faces have an entry, or a refusal.
-#[derive(Drop)]
+#[derive(Clone, Copy)]
 pub enum Divided {
     Entries(usize),
     Refused(Refusal),

@@ -1,4 +1,7 @@
 // Opening a job's bytes to a record.
+
+#![tactic(auto)]
+
 ghost use Rattle.std.specs.Prelude.{◌≡◌};
 ghost use Rattle.rules.specs.Opening.{opening, opening_numbers, refused_opening, blank_record};
 ghost use Rattle.rules.specs.Outcome.{answer_numbers};

@@ -1,4 +1,7 @@
 // A reading against the pore pressure of an element of a record.
+
+#![tactic(auto)]
+
 ghost use Rattle.std.specs.Prelude.{◌-ℤ◌, true, ◌≡◌};
 ghost use Rattle.numbers.specs.Interval.{Within};
 ghost use Rattle.quantities.specs.Quantities.{stress_limits, pressure as quantities·pressure};
@@ -14,7 +17,7 @@ use rules::record::Record;
 
 // What a reading of an element gives: its exact value, the element's pore pressure and the reading less that; of a missing one the pore
 // pressure alone; or a refusal.
-#[derive(Drop)]
+#[derive(Clone, Copy)]
 pub enum Compared {
     Difference(Exact, Pressure, Pressure),
     Missing(Pressure),
@@ -70,7 +73,7 @@ pub fn compare(r: Record, element: u64, reading: Reading) -> Compared
 
 // An answer in numbers: the refusal's, or 0; 1 for a missing reading; exact value, pore pressure and difference as fields hold signed
 // numbers, each 0 where there is none.
-#[derive(Drop)]
+#[derive(Clone, Copy)]
 pub struct Numbers {
     pub refusal: u64,
     pub missing: u64,

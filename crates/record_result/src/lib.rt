@@ -1,4 +1,7 @@
 // The result of a record.
+
+#![tactic(auto)]
+
 ghost use Rattle.std.specs.Prelude.{length, true, ◌≡◌, ◌≤◌};
 ghost use Rattle.numbers.specs.Arrays.{overlaid};
 ghost use Rattle.rules.specs.Record.{is_layer};

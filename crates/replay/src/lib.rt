@@ -1,4 +1,7 @@
 // A replay: a job opened, and calls made one after the other on its record.
+
+#![tactic(auto)]
+
 ghost use Rattle.std.specs.Prelude.{length, ◌≡◌, ◌+◌, ◌*◌, ◌≤◌};
 ghost use Rattle.std.proofs.lemmas.List.Edits.{sets};
 ghost use Rattle.replay.specs.Claim.{Claim};

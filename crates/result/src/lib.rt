@@ -1,4 +1,7 @@
 // The result's bytes.
+
+#![tactic(auto)]
+
 ghost use Rattle.std.specs.Prelude.{length, true, ◌≡◌, ◌≤◌};
 ghost use Rattle.lent.specs.Burdens.{burdens_in};
 ghost use Rattle.numbers.specs.Arrays.{overlaid};

@@ -1,4 +1,7 @@
 // What a result says of each element.
+
+#![tactic(auto)]
+
 ghost use Rattle.std.specs.Prelude.{length, get_or, true, ◌≡◌, ℕ, ◌+◌, ◌*◌, ◌≤◌, ◌<◌};
 ghost use Rattle.std.proofs.lemmas.List.Edits.{sets};
 ghost use Rattle.laws.specs.Most.{most_excess};
@@ -55,7 +58,7 @@ pub fn write_words(
 }
 
 // The effective stress and the pore pressure of an element.
-#[derive(Drop)]
+#[derive(Clone, Copy)]
 pub struct Stresses {
     pub effective: u64,
     pub pore: Pressure,

@@ -1,4 +1,7 @@
 // The head of a result.
+
+#![tactic(auto)]
+
 ghost use Rattle.std.specs.Prelude.{length, pos, ◌≤ℤ◌, ◌≡◌, ◌≤◌};
 ghost use Rattle.std.proofs.lemmas.List.Edits.{sets};
 ghost use Rattle.numbers.specs.Integers.{up};

@@ -1,7 +1,7 @@
 use crate::record::{Frame, Progress, Record};
 
 // Why the key is withheld, in the order of the causes' numbers.
-#[derive(Drop)]
+#[derive(Clone, Copy)]
 pub enum Refusal {
     ShortOrUnmarked,
     OtherVersion,
@@ -26,7 +26,7 @@ pub enum Refusal {
 }
 
 // Why a run stopped.
-#[derive(Drop)]
+#[derive(Clone, Copy)]
 pub enum Stop {
     AtEnd,
     BudgetUsed,
@@ -35,7 +35,7 @@ pub enum Stop {
 }
 
 // What a call asks: a load, a step, or a run to an end with a budget.
-#[derive(Drop)]
+#[derive(Clone, Copy)]
 pub enum Call {
     Load(u64),
     Step(u64),
@@ -43,7 +43,7 @@ pub enum Call {
 }
 
 // What a call answers: done, a run's stop and number of steps, or a refusal.
-#[derive(Drop)]
+#[derive(Clone, Copy)]
 pub enum Answer {
     Done,
     Ran(Stop, u64),
@@ -51,7 +51,7 @@ pub enum Answer {
 }
 
 // How a run ended: its stop, its number of steps, and what it leaves of the layer beside the water.
-#[derive(Drop)]
+#[derive(Clone, Copy)]
 pub struct Ended {
     pub stop: Stop,
     pub steps: u64,
@@ -59,14 +59,14 @@ pub struct Ended {
 }
 
 // What a job's description answers: the numbers of its layer, or a refusal.
-#[derive(Drop)]
+#[derive(Clone, Copy)]
 pub enum Acceptance {
     Accepted(Frame, Progress),
     Refused(Refusal),
 }
 
 // An answer with the record as the call leaves it.
-#[derive(Drop)]
+#[derive(Clone, Copy)]
 pub struct Answered {
     pub answer: Answer,
     pub after: Record,

@@ -1,5 +1,5 @@
 // The numbers of a job's first 48 bytes, or of a description that has no bytes: each may be any number.
-#[derive(Drop)]
+#[derive(Clone, Copy)]
 pub struct Header {
     pub top: u64,
     pub bottom: u64,

@@ -1,7 +1,7 @@
 use quantities::{Clock, Face, Head, Outflow, Pressure};
 
 // How many points each curve of a soil has.
-#[derive(Drop)]
+#[derive(Clone, Copy)]
 pub struct CurveCounts {
     pub compressibility: usize,
     pub conductivity: usize,
@@ -9,13 +9,13 @@ pub struct CurveCounts {
 
 // What an element's effective stress is read by, beside its solids, its water and the compressibility curve's points: today how many
 // points there are.
-#[derive(Drop)]
+#[derive(Clone, Copy)]
 pub struct Skeleton {
     pub points: usize,
 }
 
 // Both curves, point by point. Array places past a count are ignored and kept, here and in a layer.
-#[derive(Drop)]
+#[derive(Clone, Copy)]
 pub struct Soil {
     pub counts: CurveCounts,
     pub compressibility_void: [u64; 64],
@@ -25,7 +25,7 @@ pub struct Soil {
 }
 
 // The numbers of a layer that no call changes.
-#[derive(Drop)]
+#[derive(Clone, Copy)]
 pub struct Frame {
     pub top: Face,
     pub bottom: Face,
@@ -38,7 +38,7 @@ pub struct Frame {
 }
 
 // The numbers of a layer that calls change.
-#[derive(Drop)]
+#[derive(Clone, Copy)]
 pub struct Progress {
     pub load: Pressure,
     pub clock: Clock,
@@ -47,7 +47,7 @@ pub struct Progress {
 }
 
 // A layer but for its soil: its numbers, and its arrays, of which calls change the water.
-#[derive(Drop)]
+#[derive(Clone, Copy)]
 pub struct Layer {
     pub frame: Frame,
     pub progress: Progress,
@@ -58,7 +58,7 @@ pub struct Layer {
 }
 
 // A layer on its soil between two calls.
-#[derive(Drop)]
+#[derive(Clone, Copy)]
 pub struct Record {
     pub soil: Soil,
     pub layer: Layer,

@@ -1,4 +1,7 @@
 // Run: the loop to an end time with a budget, on any record.
+
+#![tactic(auto)]
+
 ghost use Rattle.std.specs.Prelude.{length, true, ◌≡◌, ◌≤◌};
 ghost use Rattle.rules.specs.Calls.{called, called_numbers, ended_run};
 ghost use Rattle.rules.specs.Outcome.{answer_numbers};

@@ -1,5 +1,8 @@
 // Answers lists of calls and readings, works jobs and writes those of descriptions, all from files, and writes every answer, state, result
 // and job, for comparison with another program's.
+
+#![tactic(auto)]
+
 mod divisions;
 mod print;
 

@@ -1,4 +1,7 @@
 // Whether what a record holds of a job is sound.
+
+#![tactic(auto)]
+
 ghost use Rattle.std.specs.Prelude.{pos, ◌&&◌, ◌≡◌, ◌≤◌};
 ghost use Rattle.laws.specs.Amid.{Between};
 ghost use Rattle.quantities.specs.Quantities.{level_limits, curve_limits};

@@ -1,4 +1,7 @@
 // The water of an opened layer: as given, or at rest under a load.
+
+#![tactic(auto)]
+
 ghost use Rattle.std.specs.Prelude.{pos, length, get_or, true, map, ◌≡◌, ℕ, ◌≤◌, ◌<◌};
 ghost use Rattle.laws.specs.Most.{most_burden};
 ghost use Rattle.numbers.specs.Arrays.{first_places, overlaid};
@@ -14,7 +17,7 @@ use quantities::CurveValue;
 use rules::record::Skeleton;
 
 // Where the water of an element rests: at a height, or at none.
-#[derive(Drop)]
+#[derive(Clone, Copy)]
 pub enum Resting {
     At(u64),
     Nowhere,

@@ -14,7 +14,7 @@ use rules::record::{CurveCounts, Skeleton};
 // The seconds over which flows are compared.
 const SECONDS: u64 = 1_000;
 
-#[derive(Drop)]
+#[derive(Clone, Copy)]
 pub struct Extremes {
     pub least: i64,
     pub greatest: i64,

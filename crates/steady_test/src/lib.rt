@@ -1,4 +1,7 @@
 // Whether a layer that is lent by its parts is steady.
+
+#![tactic(auto)]
+
 ghost use Rattle.std.specs.Prelude.{get_or, true, ◌≡◌, ℕ, ◌<◌};
 ghost use Rattle.rules.specs.Record.{soil_of, layer_of, record_of, record_site, record_state, is_layer};
 ghost use Rattle.rules.specs.Steady.{steady};

@@ -10,7 +10,7 @@ use quantities::Pressure;
 use rules::record::Skeleton;
 
 // p in millipascals, and r.
-#[derive(Drop)]
+#[derive(Clone, Copy)]
 pub struct Standing {
     pub excess: i64,
     pub resistance: u64,

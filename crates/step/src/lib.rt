@@ -1,4 +1,7 @@
 // Step: one step of t seconds.
+
+#![tactic(auto)]
+
 ghost use Rattle.std.specs.Prelude.{true, ◌≡◌, ◌+◌};
 ghost use Rattle.rules.specs.Calls.{called, called_numbers};
 ghost use Rattle.rules.specs.Outcome.{answer_numbers};

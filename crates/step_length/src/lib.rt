@@ -1,4 +1,7 @@
 // The longest step that is too long for no element and face of it.
+
+#![tactic(auto)]
+
 ghost use Rattle.std.specs.Prelude.{pos, length, get_or, not, ◌≡◌, ℕ, ◌+◌, ◌*◌, ◌≤◌, ◌<◌, min, max};
 ghost use Rattle.element.specs.Elements.{element_of};
 ghost use Rattle.laws.specs.Most.{most_face_resistance, most_sensitivity};

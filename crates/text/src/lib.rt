@@ -1,4 +1,7 @@
 // Numbers as text.
+
+#![tactic(auto)]
+
 ghost use Rattle.std.specs.Prelude.{pos, nat_abs, length, take, ◌<ℤ◌, [], ◌∷◌, ◌≡◌, ℕ, ◌+◌, ◌*◌, ◌≤◌, ◌<◌};
 ghost use Rattle.text.specs.Text.{decimal, signed_decimal, spaced, signed_spaced, row, trimmed, Put};
 

@@ -1,4 +1,7 @@
 // The new water of a step, and the bounds in which an element is on the curve.
+
+#![tactic(auto)]
+
 ghost use Rattle.std.specs.Prelude.{ℤ, pos, ◌+ℤ◌, ◌-ℤ◌, length, get_or, ◌≤ℤ◌, ◌≡◌, ℕ, ◌+◌, ◌≤◌, ◌<◌};
 ghost use Rattle.laws.specs.Most.{most_flow};
 ghost use Rattle.water.specs.Water.{new_water, height_after, between, stays_at, Movable};

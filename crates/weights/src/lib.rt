@@ -1,4 +1,7 @@
 // The buoyant weights of a layer: constant while its solids are.
+
+#![tactic(auto)]
+
 ghost use Rattle.std.specs.Prelude.{length, get_or, ◌≡◌, ℕ, ◌+◌, ◌≤◌, ◌<◌};
 ghost use Rattle.laws.specs.Most.{most_total_weight};
 ghost use Rattle.weights.specs.Weights.{weight_from, burden_at};

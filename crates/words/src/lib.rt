@@ -1,4 +1,7 @@
 // A description by its words, numbers of 64 bits, and the job that they say. A word past the last is 0.
+
+#![tactic(auto)]
+
 ghost use Rattle.std.specs.Prelude.{length, get_or, ◌≡◌, ◌+◌, ◌≤◌};
 ghost use Rattle.words.specs.Words.{words_length, places_from, words_header, written_words, WordsTrips};
 ghost use Rattle.writer.specs.Writing.{written_number};

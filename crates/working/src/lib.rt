@@ -1,4 +1,7 @@
 // The working of a step as a grader writes it out: the long division at every face, and both curves as they are read for every element.
+
+#![tactic(auto)]
+
 ghost use Rattle.std.specs.Prelude.{length, true, [], ◌∷◌, ◌≡◌, ◌+◌, ◌*◌, ◌≤◌, ◌<◌};
 ghost use Rattle.std.proofs.lemmas.List.Edits.{sets};
 ghost use Rattle.curves.specs.Smooth.{Smooth};
@@ -27,7 +30,7 @@ use rules::faces::OpenFace;
 use rules::record::{Record, Soil};
 
 // A curve as it is read: the segment, 1 the one between the first two points, the value there, and what its interpolation leaves.
-#[derive(Drop)]
+#[derive(Clone, Copy)]
 pub struct CurveReading {
     pub segment: u64,
     pub value: u64,
@@ -35,7 +38,7 @@ pub struct CurveReading {
 }
 
 // What the call answers: how many words there are, or a refusal.
-#[derive(Drop)]
+#[derive(Clone, Copy)]
 pub enum Worked {
     Words(usize),
     Refused(Refusal),

@@ -1,4 +1,7 @@
 // Writing a job: from a description, which has no bytes, to the bytes of a version 1 job.
+
+#![tactic(auto)]
+
 ghost use Rattle.std.specs.Prelude.{length, ◌≡◌};
 ghost use Rattle.description.specs.Lent.{description_of};
 ghost use Rattle.rules.specs.Job.{Description};
@@ -12,7 +15,7 @@ use rules::job::Header;
 pub mod bytes;
 
 // What the writer answers: the job's length, or a refusal.
-#[derive(Drop)]
+#[derive(Clone, Copy)]
 pub enum Written {
     Length(usize),
     Refused(Refusal),

@@ -12,8 +12,8 @@ enum-told-2 c = search rules
 enum-known-answer : tie.Need-enum-known-answer
 enum-known-answer c = search rules
 
-refusal-number-requires : tie.Need-refusal-number-requires
-refusal-number-requires c κs = search rules
+refusal_number-requires : tie.Need-refusal_number-requires
+refusal_number-requires c κs = search rules
 
 returns : tie.Need-returns
 unfolding answer_number
@@ -25,16 +25,16 @@ returns-2 c = search rules
 
 returns-3 : tie.Need-returns-3
 unfolding answer_number
-returns-3 c = rw c.before.before.answer.given.1 c.refusal-number.ensures
+returns-3 c = rw c.before.before.answer.given.1 c.refusal_number.ensures
 
-pub answer-number-spec : {M : Type 1} → statement M
-answer-number-spec =
+pub answer_number_spec : {M : Type 1} → statement M
+answer_number_spec =
     tie.close
     (tie.spec
     enum_told
     enum-told-2
     enum-known-answer
-    refusal-number-requires
+    refusal_number-requires
     returns
     returns-2
     returns-3)

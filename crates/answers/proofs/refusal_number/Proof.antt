@@ -143,8 +143,8 @@ returns-20 : tie.Need-returns-20
 unfolding refusal_number
 returns-20 c = rw c.enum-told20.given.1
 
-pub refusal-number-spec : {M : Type 1} → statement M
-refusal-number-spec =
+pub refusal_number_spec : {M : Type 1} → statement M
+refusal_number_spec =
     tie.close
     (tie.spec
     enum_told

@@ -29,10 +29,10 @@ slice-write-out-7 c = simp length-set (omega arith)
 slice-write-out-8 : tie.Need-slice-write-out-8
 slice-write-out-8 c = simp length-set (omega arith)
 
-cast-out : tie.Need-overflow-cast-out
+cast-out : tie.Need-overflow_cast-out
 cast-out c = search rules
 
-add-out : tie.Need-overflow-add-out
+add-out : tie.Need-overflow_add-out
 add-out c = search rules
 
 slice-write-out-9 : tie.Need-slice-write-out-9
@@ -47,19 +47,19 @@ same_length c = simp length-set
 returns : tie.Need-returns
 returns c = let s = c.before in line_of_10 s.args.number s.args.out.now s.requires.1 c.if1.true
 
-cast-out-2 : tie.Need-overflow-cast-out-2
+cast-out-2 : tie.Need-overflow_cast-out-2
 cast-out-2 c = search rules
 
-add-out-2 : tie.Need-overflow-add-out-2
+add-out-2 : tie.Need-overflow_add-out-2
 add-out-2 c = search rules
 
 slice-write-out-11 : tie.Need-slice-write-out-11
 slice-write-out-11 c = simp length-set (omega arith)
 
-cast-out-3 : tie.Need-overflow-cast-out-3
+cast-out-3 : tie.Need-overflow_cast-out-3
 cast-out-3 c = search rules
 
-add-out-3 : tie.Need-overflow-add-out-3
+add-out-3 : tie.Need-overflow_add-out-3
 add-out-3 c = search rules
 
 slice-write-out-12 : tie.Need-slice-write-out-12
@@ -74,8 +74,8 @@ same-length-2 c = simp length-set
 returns-2 : tie.Need-returns-2
 returns-2 c = let s = c.before in line_of_11 s.args.number s.args.out.now s.requires.1 c.if1.false
 
-pub refused-line-spec : {M : Type 1} → statement M
-refused-line-spec =
+pub refused_line_spec : {M : Type 1} → statement M
+refused_line_spec =
     tie.close
     (tie.spec
     slice-write-out

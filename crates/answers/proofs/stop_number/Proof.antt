@@ -31,7 +31,7 @@ returns-4 : tie.Need-returns-4
 unfolding stop_number
 returns-4 c = search rules
 
-pub stop-number-spec : {M : Type 1} → statement M
-stop-number-spec =
+pub stop_number_spec : {M : Type 1} → statement M
+stop_number_spec =
     tie.close
     (tie.spec enum_told enum-told-2 enum-told-3 enum-told-4 returns returns-2 returns-3 returns-4)

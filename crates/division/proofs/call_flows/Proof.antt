@@ -18,25 +18,25 @@ module _ (c : tie.After-known-told) where
   count_most =
       let d = c.before.before.before.before.before in
       let s = d.before.before.before in
-      entries_most s.args.r s.args.t (d.divide-into.ensures.1.1.1 _ c.before.answer.given.1)
+      entries_most s.args.r s.args.t (d.divide_into.ensures.1.1.1 _ c.before.answer.given.1)
 
   count-within : Within (pos c.before.answer.given.0.0) 129
   count-within = within_le (within_pos c.before.answer.given.0.0) count_most
 
-divide-into-requires : tie.Need-divide-into-requires
-divide-into-requires c κs = search rules
+divide_into-requires : tie.Need-divide_into-requires
+divide_into-requires c κs = search rules
 
 enum-known-answer : tie.Need-enum-known-answer
 enum-known-answer c = search rules
 
-cast-result : tie.Need-overflow-cast-result
+cast-result : tie.Need-overflow_cast-result
 cast-result c = within_fits tt (count-within c)
 
 enum-known-answer-2 : tie.Need-enum-known-answer-2
 enum-known-answer-2 c = search rules
 
-minus-number-requires : tie.Need-minus-number-requires
-minus-number-requires c κs = search rules
+minus_number-requires : tie.Need-minus_number-requires
+minus_number-requires c κs = search rules
 
 same_length : tie.Need-same-length
 same_length c = search rules
@@ -49,7 +49,7 @@ unfolding divided_number
 returns c =
     let d = c.before.before.before.before.before in
     let s = d.before.before.before in
-    let told = d.divide-into.ensures in
+    let told = d.divide_into.ensures in
     call_returns s.args.r s.args.t s.args.flows.now s.args.remainders.now (sym c.before.answer.given.1 ∙ told.0) told.1.0 told.1.1.0 (read_unsigned c.before.answer.given.0.0 (omega (arith, count_most c)))
 
 same-length-3 : tie.Need-same-length-3
@@ -63,19 +63,19 @@ unfolding divided_number
 returns-2 c =
     let d = c.before.before.before.before.before.before in
     let s = d.before.before.before in
-    let told = d.divide-into.ensures in
+    let told = d.divide_into.ensures in
     call_returns s.args.r s.args.t s.args.flows.now s.args.remainders.now (sym c.before.before.answer2.given.1 ∙ told.0) told.1.0 told.1.1.0
     (read_back {z = c.minus_number.result} (record { sfits = c.minus_number.type-inv }) ∙ c.minus_number.ensures)
 
-pub call-flows-spec : {M : Type 1} → statement M
-call-flows-spec =
+pub call_flows_spec : {M : Type 1} → statement M
+call_flows_spec =
     tie.close
     (tie.spec
-    divide-into-requires
+    divide_into-requires
     enum-known-answer
     cast-result
     enum-known-answer-2
-    minus-number-requires
+    minus_number-requires
     same_length
     same-length-2
     returns

@@ -22,8 +22,8 @@ open-requires c κs = search rules
 enum_told : tie.Need-enum-told
 enum_told c = search rules
 
-run-to-flows-requires : tie.Need-run-to-flows-requires
-run-to-flows-requires c κs =
+run_to_flows-requires : tie.Need-run_to_flows-requires
+run_to_flows-requires c κs =
     let e = c.before.before in
     let s = start e in
     rw e.before.before.before.«open».ensures.0 (opened_layer s.args.job.now (done e))
@@ -34,8 +34,8 @@ enum-told-2 c = search rules
 enum-known-answer : tie.Need-enum-known-answer
 enum-known-answer c = search rules
 
-minus-number-requires : tie.Need-minus-number-requires
-minus-number-requires c κs = search rules
+minus_number-requires : tie.Need-minus_number-requires
+minus_number-requires c κs = search rules
 
 same_length : tie.Need-same-length
 same_length c = search rules
@@ -48,10 +48,10 @@ returns c =
     let d = c.before.before in
     let e = d.before.before.before in
     let s = start e in
-    let told = d.run-to-flows.ensures in
+    let told = d.run_to_flows.ensures in
     returns_as (job_opened s.args.job.now s.args.seconds s.args.flows.now s.args.remainders.now (done e))
     (returns_as (ap (λ (a : Answered). run_to_flows s.args.job.now a.after s.args.seconds s.args.flows.now s.args.remainders.now) (sym e.before.before.before.«open».ensures.0))
-    (read_back {z = d.run-to-flows.result} (record { sfits = d.run-to-flows.type-inv }) ∙ told.0, (told.1.0, told.1.1)))
+    (read_back {z = d.run_to_flows.result} (record { sfits = d.run_to_flows.type-inv }) ∙ told.0, (told.1.0, told.1.1)))
 
 returns-2 : tie.Need-returns-2
 returns-2 c =
@@ -67,16 +67,16 @@ returns-3 c =
     (sym (ap (λ (a : Answered). a.answer) k.before.before.before.before.«open».ensures.0) ∙ k.before.answer.given.1))
     (read_back {z = c.minus_number.result} (record { sfits = c.minus_number.type-inv }) ∙ c.minus_number.ensures, (refl, refl))
 
-pub consolidation-flows-spec : {M : Type 1} → statement M
-consolidation-flows-spec =
+pub consolidation_flows_spec : {M : Type 1} → statement M
+consolidation_flows_spec =
     tie.close
     (tie.spec
     open-requires
     enum_told
-    run-to-flows-requires
+    run_to_flows-requires
     enum-told-2
     enum-known-answer
-    minus-number-requires
+    minus_number-requires
     same_length
     same-length-2
     returns

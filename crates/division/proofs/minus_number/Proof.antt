@@ -18,14 +18,14 @@ use Rattle.division.proofs.minus_number.Tie as tie
 turned : (z : ℤ) → pos 0 -ℤ z ≡ neg_ℤ z
 turned z = omega (signed, sub_parts (pos 0) z, up_neg z, down_neg z)
 
-module _ (c : tie.After-refusal-number) where
+module _ (c : tie.After-refusal_number) where
   abbrev number : ℕ
   number = refusal_number c.before.args.cause
 
-  number_is : to_z w64 c.refusal-number.result ≡ pos number
+  number_is : to_z w64 c.refusal_number.result ≡ pos number
   number_is =
       let few = cause_numbered c.before.args.cause in
-      rw c.refusal-number.ensures (read_unsigned number (omega (arith, few)))
+      rw c.refusal_number.ensures (read_unsigned number (omega (arith, few)))
 
   below-fits : SFits w64 (pos 0 -ℤ pos number)
   below-fits =
@@ -33,20 +33,20 @@ module _ (c : tie.After-refusal-number) where
       let within : Within (neg_ℤ (pos number)) 20 = within_neg (within_le (within_pos number) few.1) in
       rw (turned (pos number)) (within_fits tt within)
 
-refusal-number-requires : tie.Need-refusal-number-requires
-refusal-number-requires c κs = search rules
+refusal_number-requires : tie.Need-refusal_number-requires
+refusal_number-requires c κs = search rules
 
-cast-result : tie.Need-overflow-cast-result
+cast-result : tie.Need-overflow_cast-result
 cast-result c =
     let within : Within (pos (number c)) 20 = within_le (within_pos (number c)) (cause_numbered c.before.args.cause).1 in
-    rw c.refusal-number.ensures (within_fits tt within)
+    rw c.refusal_number.ensures (within_fits tt within)
 
-sub-result : tie.Need-overflow-sub-result
+sub-result : tie.Need-overflow_sub-result
 sub-result c = rw (number_is c) (below-fits c)
 
 returns : tie.Need-returns
 unfolding minus_number
 returns c = rw (number_is c, read_back (below-fits c)) (turned (pos (number c)))
 
-pub minus-number-spec : {M : Type 1} → statement M
-minus-number-spec = tie.close (tie.spec refusal-number-requires cast-result sub-result returns)
+pub minus_number_spec : {M : Type 1} → statement M
+minus_number_spec = tie.close (tie.spec refusal_number-requires cast-result sub-result returns)

@@ -17,20 +17,20 @@ run-as : {end budget : ℕ} {a : Answered} (job : List ℕ) (r : Record) → end
 unfolding job_run described
 run-as job r end_is budget-is is = ap (λ (a : Answered). a.after) (rw (end_is, budget-is) at is)
 
-word-at-requires : tie.Need-word-at-requires
-word-at-requires c κs = search rules
+word_at-requires : tie.Need-word_at-requires
+word_at-requires c κs = search rules
 
-word-at-requires-2 : tie.Need-word-at-requires-2
-word-at-requires-2 c κs = search rules
+word_at-requires-2 : tie.Need-word_at-requires-2
+word_at-requires-2 c κs = search rules
 
-take-run-requires : tie.Need-take-run-requires
-take-run-requires c κs = search rules
+take_run-requires : tie.Need-take_run-requires
+take_run-requires c κs = search rules
 
 returns : tie.Need-returns
 returns c =
     let ran = c.before in
     let s = ran.before.before.before.before in
-    run-as s.args.job.now s.args.r ran.before.before.word_at.ensures ran.before.word-at2.ensures ran.take-run.ensures.0
+    run-as s.args.job.now s.args.r ran.before.before.word_at.ensures ran.before.word_at2.ensures ran.take_run.ensures.0
 
-pub run-job-spec : {M : Type 1} → statement M
-run-job-spec = tie.close (tie.spec word-at-requires word-at-requires-2 take-run-requires returns)
+pub run_job_spec : {M : Type 1} → statement M
+run_job_spec = tie.close (tie.spec word_at-requires word_at-requires-2 take_run-requires returns)

@@ -11,44 +11,44 @@ use Rattle.division.proofs.run_to_flows.Statement.{statement}
 use Rattle.division.proofs.run_to_flows.Tie as tie
 
 -- the run leaves as many faces
-same_count : (c : tie.After-run-job) → let s = c.before.before.before.before.before.before in
-    entry_count c.run-job.result ≡ entry_count s.args.r
+same_count : (c : tie.After-run_job) → let s = c.before.before.before.before.before.before in
+    entry_count c.run_job.result ≡ entry_count s.args.r
 same_count c =
     let s = c.before.before.before.before.before.before in
-    ap entry_count c.run-job.ensures ∙ run_count s.args.job.now s.args.r
+    ap entry_count c.run_job.ensures ∙ run_count s.args.job.now s.args.r
 
-face-count-requires : tie.Need-face-count-requires
-face-count-requires c κs = let s = c.before.before in counted s.args.r s.requires
+face_count-requires : tie.Need-face_count-requires
+face_count-requires c κs = let s = c.before.before in counted s.args.r s.requires
 
-minus-number-requires : tie.Need-minus-number-requires
-minus-number-requires c κs = search rules
+minus_number-requires : tie.Need-minus_number-requires
+minus_number-requires c κs = search rules
 
 returns : tie.Need-returns
 returns c =
     let f = c.before.before in
     let s = f.before.before.before in
-    returns_as (short_flows s.args.job.now s.args.r s.args.t s.args.flows.now s.args.remainders.now (rw (← f.face-count.ensures.0) (omega arith)))
+    returns_as (short_flows s.args.job.now s.args.r s.args.t s.args.flows.now s.args.remainders.now (rw (← f.face_count.ensures.0) (omega arith)))
     (read_back {z = c.minus_number.result} (record { sfits = c.minus_number.type-inv }) ∙ c.minus_number.ensures, (refl, refl))
 
-minus-number-requires-2 : tie.Need-minus-number-requires-2
-minus-number-requires-2 c κs = search rules
+minus_number-requires-2 : tie.Need-minus_number-requires-2
+minus_number-requires-2 c κs = search rules
 
 returns-2 : tie.Need-returns-2
 returns-2 c =
     let f = c.before.before.before in
     let s = f.before.before.before in
-    returns_as (short_remainders s.args.job.now s.args.r s.args.t s.args.flows.now s.args.remainders.now (rw (← f.face-count.ensures.0) (omega arith)) (rw (← f.face-count.ensures.0) (omega arith)))
-    (read_back {z = c.minus-number2.result} (record { sfits = c.minus-number2.type-inv }) ∙ c.minus-number2.ensures, (refl, refl))
+    returns_as (short_remainders s.args.job.now s.args.r s.args.t s.args.flows.now s.args.remainders.now (rw (← f.face_count.ensures.0) (omega arith)) (rw (← f.face_count.ensures.0) (omega arith)))
+    (read_back {z = c.minus_number2.result} (record { sfits = c.minus_number2.type-inv }) ∙ c.minus_number2.ensures, (refl, refl))
 
-run-job-requires : tie.Need-run-job-requires
-run-job-requires c κs = search rules
+run_job-requires : tie.Need-run_job-requires
+run_job-requires c κs = search rules
 
-call-flows-requires : tie.Need-call-flows-requires
-call-flows-requires c κs =
+call_flows-requires : tie.Need-call_flows-requires
+call_flows-requires c κs =
     let j = c.before.before in
     let f = j.before.before.before in
     let s = f.before.before.before in
-    (λ _. rw (same_count j) (rw (← f.face-count.ensures.0) (omega arith)), λ _. rw (same_count j) (rw (← f.face-count.ensures.0) (omega arith)))
+    (λ _. rw (same_count j) (rw (← f.face_count.ensures.0) (omega arith)), λ _. rw (same_count j) (rw (← f.face_count.ensures.0) (omega arith)))
 
 same_length : tie.Need-same-length
 same_length c = search rules
@@ -62,22 +62,22 @@ returns-3 c =
     let j = d.before.before.before in
     let f = j.before.before.before in
     let s = f.before.before.before in
-    let told = d.call-flows.ensures in
-    returns_as (room_enough s.args.job.now s.args.r s.args.t s.args.flows.now s.args.remainders.now (rw (← f.face-count.ensures.0) (omega arith)) (rw (← f.face-count.ensures.0) (omega arith)))
-    (returns_as (ap (λ (r : Record). call_flows r s.args.t s.args.flows.now s.args.remainders.now) (sym j.run-job.ensures))
-    (read_back {z = d.call-flows.result} (record { sfits = d.call-flows.type-inv }) ∙ told.0, (told.1.0, told.1.1)))
+    let told = d.call_flows.ensures in
+    returns_as (room_enough s.args.job.now s.args.r s.args.t s.args.flows.now s.args.remainders.now (rw (← f.face_count.ensures.0) (omega arith)) (rw (← f.face_count.ensures.0) (omega arith)))
+    (returns_as (ap (λ (r : Record). call_flows r s.args.t s.args.flows.now s.args.remainders.now) (sym j.run_job.ensures))
+    (read_back {z = d.call_flows.result} (record { sfits = d.call_flows.type-inv }) ∙ told.0, (told.1.0, told.1.1)))
 
-pub run-to-flows-spec : {M : Type 1} → statement M
-run-to-flows-spec =
+pub run_to_flows_spec : {M : Type 1} → statement M
+run_to_flows_spec =
     tie.close
     (tie.spec
-    face-count-requires
-    minus-number-requires
+    face_count-requires
+    minus_number-requires
     returns
-    minus-number-requires-2
+    minus_number-requires-2
     returns-2
-    run-job-requires
-    call-flows-requires
+    run_job-requires
+    call_flows-requires
     same_length
     same-length-2
     returns-3)

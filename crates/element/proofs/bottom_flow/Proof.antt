@@ -43,12 +43,12 @@ module _ (c : tie.After-outward) where
 outward-requires : tie.Need-outward-requires
 outward-requires c κs = search rules
 
-sub-result : tie.Need-overflow-sub-result
+sub-result : tie.Need-overflow_sub-result
 sub-result c = rw (out_is c, read_back (out-fits c)) (up_fits c)
 
 returns : tie.Need-returns
 unfolding out
 returns c = rw (out_is c, read_back (out-fits c), read_back (up_fits c)) (turned (out c))
 
-pub bottom-flow-spec : {M : Type 1} → statement M
-bottom-flow-spec = tie.close (tie.spec outward-requires sub-result returns)
+pub bottom_flow_spec : {M : Type 1} → statement M
+bottom_flow_spec = tie.close (tie.spec outward-requires sub-result returns)

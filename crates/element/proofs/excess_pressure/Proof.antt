@@ -32,20 +32,20 @@ module _ (c : tie.Start) where
   excess-fits : SFits w64 (c.args.load.0 +ℤ pos c.args.burden -ℤ pos c.args.stress)
   excess-fits = within_fits {n = stress_limits.most + most_burden + stress_limits.most} tt (within-sub total (within_le {n = stress_limits.most} (within_pos c.args.stress) (omega arith)))
 
-cast-excess : tie.Need-overflow-cast-excess
+cast-excess : tie.Need-overflow_cast-excess
 cast-excess c = search rules
 
-add-excess : tie.Need-overflow-add-excess
+add-excess : tie.Need-overflow_add-excess
 add-excess c = let s = c.before.before in simp (read_back (load_fits s), burden-is s) (total-fits s)
 
-cast-excess-2 : tie.Need-overflow-cast-excess-2
+cast-excess-2 : tie.Need-overflow_cast-excess-2
 cast-excess-2 c = search rules
 
-sub-excess : tie.Need-overflow-sub-excess
+sub-excess : tie.Need-overflow_sub-excess
 sub-excess c = let s = c.before.before in simp (read_back (load_fits s), burden-is s, stress-is s, read_back (total-fits s)) (excess-fits s)
 
 returns : tie.Need-returns
 returns c = let s = c.before.before in simp (read_back (load_fits s), burden-is s, stress-is s, read_back (total-fits s), read_back (excess-fits s))
 
-pub excess-pressure-spec : {M : Type 1} → statement M
-excess-pressure-spec = tie.close (tie.spec cast-excess add-excess cast-excess-2 sub-excess returns)
+pub excess_pressure_spec : {M : Type 1} → statement M
+excess_pressure_spec = tie.close (tie.spec cast-excess add-excess cast-excess-2 sub-excess returns)

@@ -27,13 +27,13 @@ module _ (c : tie.Start) where
   product-fits : SFits w64 (c.args.difference *ℤ pos c.args.t)
   product-fits = within_fits tt product
 
-cast-cut : tie.Need-overflow-cast-cut
+cast-cut : tie.Need-overflow_cast-cut
 cast-cut c = search rules
 
-mul-cut : tie.Need-overflow-mul-cut
+mul-cut : tie.Need-overflow_mul-cut
 mul-cut c = simp (read_back c.ranges.difference, t-is c) (product-fits c)
 
-cast-cut-2 : tie.Need-overflow-cast-cut-2
+cast-cut-2 : tie.Need-overflow_cast-cut-2
 cast-cut-2 c = search rules
 
 cut-requires : tie.Need-cut-requires
@@ -48,5 +48,5 @@ returns c =
     simp (read_back s.ranges.difference, t-is s, read_back (product-fits s), resistance-is s) at c.cut.ensures in
     rw (read_back {z = c.cut.result} (record { sfits = c.cut.type-inv })) is
 
-pub flow-spec : {M : Type 1} → statement M
-flow-spec = tie.close (tie.spec cast-cut mul-cut cast-cut-2 cut-requires returns)
+pub flow_spec : {M : Type 1} → statement M
+flow_spec = tie.close (tie.spec cast-cut mul-cut cast-cut-2 cut-requires returns)

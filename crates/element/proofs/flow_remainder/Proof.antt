@@ -27,13 +27,13 @@ module _ (c : tie.Start) where
   product-fits : SFits w64 (c.args.difference *ℤ pos c.args.t)
   product-fits = within_fits tt product
 
-cast-remainder : tie.Need-overflow-cast-remainder
+cast-remainder : tie.Need-overflow_cast-remainder
 cast-remainder c = search rules
 
-mul-remainder : tie.Need-overflow-mul-remainder
+mul-remainder : tie.Need-overflow_mul-remainder
 mul-remainder c = simp (read_back c.ranges.difference, t-is c) (product-fits c)
 
-cast-remainder-2 : tie.Need-overflow-cast-remainder-2
+cast-remainder-2 : tie.Need-overflow_cast-remainder-2
 cast-remainder-2 c = search rules
 
 remainder-requires : tie.Need-remainder-requires
@@ -48,5 +48,5 @@ returns c =
     simp (read_back s.ranges.difference, t-is s, read_back (product-fits s), resistance-is s) at c.remainder.ensures in
     rw (read_back {z = c.remainder.result} (record { sfits = c.remainder.type-inv })) is
 
-pub flow-remainder-spec : {M : Type 1} → statement M
-flow-remainder-spec = tie.close (tie.spec cast-remainder mul-remainder cast-remainder-2 remainder-requires returns)
+pub flow_remainder_spec : {M : Type 1} → statement M
+flow_remainder_spec = tie.close (tie.spec cast-remainder mul-remainder cast-remainder-2 remainder-requires returns)

@@ -23,15 +23,15 @@ module _ (c : tie.After-face) where
   abbrev held : ℤ
   held = c.face.given.0.0.0
 
-  held-within : Within held most_head_pressure
+  held_within : Within held most_head_pressure
   unfolding Holds
-  held-within = rw c.face.given.1 at s.pre.1.0
+  held_within = rw c.face.given.1 at s.pre.1.0
 
   held_fits : SFits w64 held
-  held_fits = within_fits tt held-within
+  held_fits = within_fits tt held_within
 
   difference : Within (s.args.excess -ℤ held) most_difference
-  difference = within_le (within-sub s.pre.0 held-within) (omega arith)
+  difference = within_le (within-sub s.pre.0 held_within) (omega arith)
 
   difference-fits : SFits w64 (s.args.excess -ℤ held)
   difference-fits = within_fits tt difference
@@ -42,7 +42,7 @@ enum_told c = search rules
 enum-known-face : tie.Need-enum-known-face
 enum-known-face c = search rules
 
-sub-flow : tie.Need-overflow-sub-flow
+sub-flow : tie.Need-overflow_sub-flow
 sub-flow c = let f = c.before.before.before in simp (read_back (s f).ranges.excess, read_back (held_fits f)) (difference-fits f)
 
 flow-requires : tie.Need-flow-requires
@@ -64,5 +64,5 @@ returns-2 c =
     let back = read_back {z = c.flow.result} (record { sfits = c.flow.type-inv }) in
     (rw (f.face.given.1, back) is.quotient, rw (f.face.given.1, back) is)
 
-pub outward-spec : {M : Type 1} → statement M
-outward-spec = tie.close (tie.spec enum_told enum-known-face sub-flow flow-requires returns returns-2)
+pub outward_spec : {M : Type 1} → statement M
+outward_spec = tie.close (tie.spec enum_told enum-known-face sub-flow flow-requires returns returns-2)

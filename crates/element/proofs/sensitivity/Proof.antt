@@ -10,5 +10,5 @@ returns : tie.Need-returns
 unfolding sensitivity
 returns c = c.ceil.ensures.quotient
 
-pub sensitivity-spec : {M : Type 1} → statement M
-sensitivity-spec = tie.close (tie.spec ceil-requires returns)
+pub sensitivity_spec : {M : Type 1} → statement M
+sensitivity_spec = tie.close (tie.spec ceil-requires returns)

@@ -10,5 +10,5 @@ shared-slice-read-result c = search rules
 returns : tie.Need-returns
 returns c = sym (field_one _ _)
 
-pub byte-spec : {M : Type 1} → statement M
-byte-spec = tie.close (tie.spec shared-slice-read-result returns)
+pub byte_spec : {M : Type 1} → statement M
+byte_spec = tie.close (tie.spec shared-slice-read-result returns)

@@ -21,10 +21,10 @@ loop-holds c =
     let nothing : n - n ≡ 0 = omega arith in
     (omega arith, rw nothing (sym (field_zero _ _)), rw nothing (omega arith))
 
-sub-i : tie.Need-overflow-sub-i invariant-loop decreases-loop
+sub-i : tie.Need-overflow_sub-i invariant-loop decreases-loop
 sub-i c = omega arith
 
-add-value : tie.Need-overflow-add-value invariant-loop decreases-loop
+add-value : tie.Need-overflow_add-value invariant-loop decreases-loop
 add-value c = omega arith
 
 shared-slice-read-value : tie.Need-shared-slice-read-value invariant-loop decreases-loop
@@ -39,13 +39,13 @@ small : (c : tie.After-shared-slice-known invariant-loop decreases-loop) →
     get_or c.before.before.before.args.bytes.now (place c) 0 + 256 * c.before.before.loop.value < 2 ^ 64
 small c = room _ _ _ (omega arith) c.before.before.loop.invariant.2 (c.shared-slice-known.given (place c)).fits
 
-cast_value : tie.Need-overflow-cast-value invariant-loop decreases-loop
+cast_value : tie.Need-overflow_cast-value invariant-loop decreases-loop
 cast_value c = omega (arith, c.shared-slice-known.given (place c))
 
-mul-value : tie.Need-overflow-mul-value invariant-loop decreases-loop
+mul-value : tie.Need-overflow_mul-value invariant-loop decreases-loop
 mul-value c = omega (arith, small c)
 
-add-value-2 : tie.Need-overflow-add-value-2 invariant-loop decreases-loop
+add-value-2 : tie.Need-overflow_add-value-2 invariant-loop decreases-loop
 add-value-2 c = omega (arith, small c)
 
 loop-less : tie.Need-loop-smaller invariant-loop decreases-loop
@@ -67,8 +67,8 @@ returns c =
     let first : a.offset + i ≡ a.offset = omega arith in
     rw (whole, first) at c.before.loop.invariant.1
 
-pub field-spec : {M : Type 1} → statement M
-field-spec =
+pub field_spec : {M : Type 1} → statement M
+field_spec =
     tie.close
     (tie.spec
     invariant-loop

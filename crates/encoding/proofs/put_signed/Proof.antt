@@ -7,11 +7,11 @@ use borrow.Author.Rules.{rules}
 use Rattle.encoding.proofs.put_signed.Statement.{statement}
 use Rattle.encoding.proofs.put_signed.Tie as tie
 
-signed-field-requires : tie.Need-signed-field-requires
-signed-field-requires c κs = search rules
+signed_field-requires : tie.Need-signed_field-requires
+signed_field-requires c κs = search rules
 
-put-word-requires : tie.Need-put-word-requires
-put-word-requires c κs = search rules
+put_word-requires : tie.Need-put_word-requires
+put_word-requires c κs = search rules
 
 same_length : tie.Need-same-length
 same_length c = search rules
@@ -21,7 +21,7 @@ returns c =
     let f = c.before.before in
     let s = f.before.before.before.before in
     f.put_word.ensures ∙
-    ap (λ (n : ℕ). sets s.args.out.now s.args.at (bytes 8 n)) (simp (read_back s.ranges.z) at f.before.signed-field.ensures)
+    ap (λ (n : ℕ). sets s.args.out.now s.args.at (bytes 8 n)) (simp (read_back s.ranges.z) at f.before.signed_field.ensures)
 
-pub put-signed-spec : {M : Type 1} → statement M
-put-signed-spec = tie.close (tie.spec signed-field-requires put-word-requires same_length returns)
+pub put_signed_spec : {M : Type 1} → statement M
+put_signed_spec = tie.close (tie.spec signed_field-requires put_word-requires same_length returns)

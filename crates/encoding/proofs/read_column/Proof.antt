@@ -27,22 +27,22 @@ place : (c : tie.In-loop invariant-loop decreases-loop) →
     a.stride * i + a.stride ≤ a.stride * a.count
 place c = strides _ c.before.loop.i _ (omega arith)
 
-mul-field : tie.Need-overflow-mul-field invariant-loop decreases-loop
+mul-field : tie.Need-overflow_mul-field invariant-loop decreases-loop
 mul-field c = omega (arith, place c)
 
-add-field : tie.Need-overflow-add-field invariant-loop decreases-loop
+add-field : tie.Need-overflow_add-field invariant-loop decreases-loop
 add-field c = omega (arith, place c)
 
 field-requires : tie.Need-field-requires invariant-loop decreases-loop
 field-requires c κs = omega (arith, place c)
 
-mul-numbers : tie.Need-overflow-mul-numbers invariant-loop decreases-loop
+mul-numbers : tie.Need-overflow_mul-numbers invariant-loop decreases-loop
 mul-numbers c = omega arith
 
 slice-write-numbers : tie.Need-slice-write-numbers invariant-loop decreases-loop
 slice-write-numbers c = omega (arith, c.before.before.loop.invariant.2)
 
-add-i : tie.Need-overflow-add-i invariant-loop decreases-loop
+add-i : tie.Need-overflow_add-i invariant-loop decreases-loop
 add-i c = omega arith
 
 loop-less : tie.Need-loop-smaller invariant-loop decreases-loop
@@ -60,8 +60,8 @@ same_length c = c.before.loop.invariant.2
 returns : tie.Need-returns invariant-loop decreases-loop
 returns c = filled_done _ _ _ _ _ c.before.loop.invariant.1 (omega arith)
 
-pub read-column-spec : {M : Type 1} → statement M
-read-column-spec =
+pub read_column_spec : {M : Type 1} → statement M
+read_column_spec =
     tie.close
     (tie.spec
     invariant-loop

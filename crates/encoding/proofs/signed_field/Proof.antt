@@ -44,13 +44,13 @@ module _ (c : tie.Then1) where
 above : (c : tie.Else1) → pos 0 ≤ℤ c.before.args.z
 above c = lt_z_false c.before.args.z (pos 0) (simp (read_back c.before.ranges.z) at c.if1.false)
 
-sub-result : tie.Need-overflow-sub-result
+sub-result : tie.Need-overflow_sub-result
 sub-result c = simp (read_back c.before.ranges.z) (rest-fits c)
 
-cast-result : tie.Need-overflow-cast-result
+cast-result : tie.Need-overflow_cast-result
 cast-result c = simp (read_back c.before.ranges.z, read_back (rest-fits c)) (cast_fits (rest c) (rest-nonNeg c) (rest-fits c))
 
-sub-result-2 : tie.Need-overflow-sub-result-2
+sub-result-2 : tie.Need-overflow_sub-result-2
 sub-result-2 c =
     simp (read_back c.before.ranges.z, read_back (rest-fits c)) (omega (arith, one_more c, fits_down (z c) c.before.ranges.z))
 
@@ -58,11 +58,11 @@ returns : tie.Need-returns
 returns c =
     simp (read_back c.before.ranges.z, read_back (rest-fits c), field_below (z c) (below c)) (omega (arith, one_more c))
 
-cast-result-2 : tie.Need-overflow-cast-result-2
+cast-result-2 : tie.Need-overflow_cast-result-2
 cast-result-2 c = simp (read_back c.before.ranges.z) (cast_fits c.before.args.z (above c) c.before.ranges.z)
 
 returns-2 : tie.Need-returns-2
 returns-2 c = simp (read_back c.before.ranges.z) (field-above c.before.args.z (above c))
 
-pub signed-field-spec : {M : Type 1} → statement M
-signed-field-spec = tie.close (tie.spec sub-result cast-result sub-result-2 returns cast-result-2 returns-2)
+pub signed_field_spec : {M : Type 1} → statement M
+signed_field_spec = tie.close (tie.spec sub-result cast-result sub-result-2 returns cast-result-2 returns-2)

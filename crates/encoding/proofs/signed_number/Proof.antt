@@ -24,16 +24,16 @@ module _ (c : tie.Else1) where
   number_fits : SFits w64 (negsuc (0xffff_ffff_ffff_ffff - c.before.args.field))
   number_fits = record { sfits = omega arith }
 
-cast-result : tie.Need-overflow-cast-result
+cast-result : tie.Need-overflow_cast-result
 cast-result c = search rules
 
-sub-result : tie.Need-overflow-sub-result
+sub-result : tie.Need-overflow_sub-result
 sub-result c = search rules
 
-cast-result-2 : tie.Need-overflow-cast-result-2
+cast-result-2 : tie.Need-overflow_cast-result-2
 cast-result-2 c = search rules
 
-sub-result-2 : tie.Need-overflow-sub-result-2
+sub-result-2 : tie.Need-overflow_sub-result-2
 sub-result-2 c = rw (read_below c, number c) (number_fits c)
 
 returns : tie.Need-returns
@@ -43,6 +43,6 @@ returns-2 : tie.Need-returns-2
 returns-2 c =
     simp (read_below c, number c) (read_back (number_fits c)) ∙ sym (signed_number_high c.before.args.field c.if1.false)
 
-pub signed-number-spec : {M : Type 1} → statement M
-signed-number-spec =
+pub signed_number_spec : {M : Type 1} → statement M
+signed_number_spec =
     tie.close (tie.spec cast-result sub-result cast-result-2 sub-result-2 returns returns-2)

@@ -30,7 +30,7 @@ module _ (w : tie.After-within) where
 byte-requires : tie.Need-byte-requires
 byte-requires c κs = search rules
 
-cast-within : tie.Need-overflow-cast-within
+cast-within : tie.Need-overflow_cast-within
 cast-within c = search rules
 
 within-requires : tie.Need-within-requires
@@ -48,11 +48,11 @@ module _ (c : tie.Else1) where
   between : (1 ≤ element c.before) × (element c.before ≤ elements_in (result c.before))
   between = within_parts (from 1 to (elements_in (result c.before))) (element c.before) (passed inside)
 
-sub-pore-in : tie.Need-overflow-sub-pore-in
-sub-pore-in c = (between c).0
+sub-pore_in : tie.Need-overflow_sub-pore_in
+sub-pore_in c = (between c).0
 
-pore-in-requires : tie.Need-pore-in-requires
-pore-in-requires c κs = let (least, most) = between c in ((s c.before).pre, omega arith)
+pore_in-requires : tie.Need-pore_in-requires
+pore_in-requires c κs = let (least, most) = between c in ((s c.before).pre, omega arith)
 
 convert-requires : tie.Need-convert-requires
 convert-requires c κs = search rules
@@ -62,7 +62,7 @@ less-requires c κs =
     let p = c.before in
     let f = p.before in
     let (least, most) = between f in (
-      rw p.pore-in.ensures ((s f.before).pre.in_range (Prim.Native.Nat.◌-◌ (element f.before) 1) (omega arith)),
+      rw p.pore_in.ensures ((s f.before).pre.in_range (Prim.Native.Nat.◌-◌ (element f.before) 1) (omega arith)),
       rw c.convert.ensures (reading_within (s f.before).args.reading),
     )
 
@@ -70,18 +70,18 @@ returns-2 : tie.Need-returns-2
 returns-2 c =
     let p = c.before.before in
     let f = p.before in
-    c.less.ensures ∙ rw (p.pore-in.ensures, c.before.convert.ensures, inside f) refl
+    c.less.ensures ∙ rw (p.pore_in.ensures, c.before.convert.ensures, inside f) refl
 
-pub compare-in-spec : {M : Type 1} → statement M
-compare-in-spec =
+pub compare_in_spec : {M : Type 1} → statement M
+compare_in_spec =
     tie.close
     (tie.spec
     byte-requires
     cast-within
     within-requires
     returns
-    sub-pore-in
-    pore-in-requires
+    sub-pore_in
+    pore_in-requires
     convert-requires
     less-requires
     returns-2)

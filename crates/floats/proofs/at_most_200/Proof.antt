@@ -14,5 +14,5 @@ returns-2 : tie.Need-returns-2
 unfolding of_bits neg
 returns-2 c = first_test 25 3 c.before.args.x (subst T (sym c.before.well-formed.0.1) tt) c.if1.false
 
-pub at-most-200-spec : {M : Type 1} → statement M
-at-most-200-spec = tie.close (tie.spec returns returns-2)
+pub at_most_200_spec : {M : Type 1} → statement M
+at_most_200_spec = tie.close (tie.spec returns returns-2)

@@ -58,10 +58,10 @@ halvings-requires c κs = search rules
 halved-requires : tie.Need-halved-requires
 halved-requires c κs = (rw c.before.mantissa.ensures (mantissa_lt c.before.before.args.bits), c.before.before.requires.1)
 
-cast-size : tie.Need-overflow-cast-size
+cast-size : tie.Need-overflow_cast-size
 cast-size c = parts_fits (pos (size c)) (omega (arith, size-lt c))
 
-sub-result : tie.Need-overflow-sub-result
+sub-result : tie.Need-overflow_sub-result
 sub-result c = rw (read c.before) (minus-fits (size c.before) (size-lt c.before))
 
 returns : tie.Need-returns
@@ -76,6 +76,6 @@ returns-2 c =
     (read_back (minus-fits (size h) (size-lt h)) ∙ minus (size h) ∙
     sym (value h ∙ ap (λ (t : Bool). with_sign t (size h)) (le-leb (2 ^ 31) (bits h) c.if1.false)))
 
-pub bits-in-units-spec : {M : Type 1} → statement M
-bits-in-units-spec =
+pub bits_in_units_spec : {M : Type 1} → statement M
+bits_in_units_spec =
     tie.close (tie.spec mantissa-requires halvings-requires halved-requires cast-size sub-result returns returns-2)

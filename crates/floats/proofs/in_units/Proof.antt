@@ -11,14 +11,14 @@ use Rattle.floats.proofs.in_units.Tie as tie
 held : (s : tie.Start) → T (fits binary32 s.args.x)
 held s = subst T (sym s.well-formed.0.1) tt
 
-float-to-bits-bits-in-units : tie.Need-float-to-bits-bits-in-units
-float-to-bits-bits-in-units c = no_nan 2_000 c.args.x (held c) c.requires.0
+float-to_bits-bits_in_units : tie.Need-float-to_bits-bits_in_units
+float-to_bits-bits_in_units c = no_nan 2_000 c.args.x (held c) c.requires.0
 
-bits-in-units-requires : tie.Need-bits-in-units-requires
-bits-in-units-requires c κs = let negative = accepted-field _ c.requires.0 in (omega arith, c.requires.1)
+bits_in_units-requires : tie.Need-bits_in_units-requires
+bits_in_units-requires c κs = let negative = accepted-field _ c.requires.0 in (omega arith, c.requires.1)
 
 returns : tie.Need-returns
 returns c = search rules
 
-pub in-units-spec : {M : Type 1} → statement M
-in-units-spec = tie.close (tie.spec float-to-bits-bits-in-units bits-in-units-requires returns)
+pub in_units_spec : {M : Type 1} → statement M
+in_units_spec = tie.close (tie.spec float-to_bits-bits_in_units bits_in_units-requires returns)

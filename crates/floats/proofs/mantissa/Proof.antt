@@ -5,28 +5,28 @@ use Rattle.floats.specs.Binary32.{exponent_field, mantissa}
 use Rattle.floats.proofs.mantissa.Statement.{statement}
 use Rattle.floats.proofs.mantissa.Tie as tie
 
-cast-fraction : tie.Need-overflow-cast-fraction
+cast-fraction : tie.Need-overflow_cast-fraction
 cast-fraction c = search rules
 
-exponent-field-requires : tie.Need-exponent-field-requires
-exponent-field-requires c κs = search rules
+exponent_field-requires : tie.Need-exponent_field-requires
+exponent_field-requires c κs = search rules
 
-add-result : tie.Need-overflow-add-result
+add-result : tie.Need-overflow_add-result
 add-result c = search rules
 
 returns : tie.Need-returns
 unfolding mantissa
 returns c =
     let f = c.before in
-    let none : exponent_field f.before.args.bits ≡ 0 = sym f.exponent-field.ensures ∙ c.if1.true in
+    let none : exponent_field f.before.args.bits ≡ 0 = sym f.exponent_field.ensures ∙ c.if1.true in
     simp (eq-eqb _ _ none)
 
 returns-2 : tie.Need-returns-2
 unfolding mantissa
 returns-2 c =
     let f = c.before in
-    let some : exponent_field f.before.args.bits ≡ 0 → ⊥ = λ e. c.if1.false (f.exponent-field.ensures ∙ e) in
+    let some : exponent_field f.before.args.bits ≡ 0 → ⊥ = λ e. c.if1.false (f.exponent_field.ensures ∙ e) in
     simp (ne_eqb _ _ some)
 
-pub mantissa-spec : {M : Type 1} → statement M
-mantissa-spec = tie.close (tie.spec cast-fraction exponent-field-requires add-result returns returns-2)
+pub mantissa_spec : {M : Type 1} → statement M
+mantissa_spec = tie.close (tie.spec cast-fraction exponent_field-requires add-result returns returns-2)

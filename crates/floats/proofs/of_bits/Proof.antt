@@ -7,16 +7,16 @@ use Rattle.floats.specs.Binary32.{float_of}
 use Rattle.floats.proofs.of_bits.Statement.{statement}
 use Rattle.floats.proofs.of_bits.Tie as tie
 
-plain-bits-requires : tie.Need-plain-bits-requires
-plain-bits-requires c κs = search rules
+plain_bits-requires : tie.Need-plain_bits-requires
+plain_bits-requires c κs = search rules
 
-float-from-bits-result : tie.Need-float-from-bits-result
-float-from-bits-result c =
-    rw c.plain-bits.ensures (subst (λ (z : Bool). T (not z)) (sym (plain_no_nan c.before.args.bits)) tt)
+float-from_bits-result : tie.Need-float-from_bits-result
+float-from_bits-result c =
+    rw c.plain_bits.ensures (subst (λ (z : Bool). T (not z)) (sym (plain_no_nan c.before.args.bits)) tt)
 
 returns : tie.Need-returns
 unfolding float_of
-returns c = rw c.plain-bits.ensures
+returns c = rw c.plain_bits.ensures
 
-pub of-bits-spec : {M : Type 1} → statement M
-of-bits-spec = tie.close (tie.spec plain-bits-requires float-from-bits-result returns)
+pub of_bits_spec : {M : Type 1} → statement M
+of_bits_spec = tie.close (tie.spec plain_bits-requires float-from_bits-result returns)

@@ -12,5 +12,5 @@ returns-2 : tie.Need-returns-2
 unfolding plain_bits
 returns-2 c = simp (le-ltb infinity (c.before.args.bits % 2 ^ 31) c.if1.false)
 
-pub plain-bits-spec : {M : Type 1} → statement M
-plain-bits-spec = tie.close (tie.spec returns returns-2)
+pub plain_bits_spec : {M : Type 1} → statement M
+plain_bits_spec = tie.close (tie.spec returns returns-2)

@@ -6,17 +6,17 @@ use borrow.Author.Rules.{rules}
 use Rattle.flows.proofs.all_flows.Statement.{statement}
 use Rattle.flows.proofs.all_flows.Tie as tie
 
-flows-above-requires : tie.Need-flows-above-requires
-flows-above-requires c κs = search rules
+flows_above-requires : tie.Need-flows_above-requires
+flows_above-requires c κs = search rules
 
-element-copy-out-bottom-flow : tie.Need-element-copy-out-bottom-flow
-element-copy-out-bottom-flow c = search rules
+element-copy-out-bottom_flow : tie.Need-element-copy-out-bottom_flow
+element-copy-out-bottom_flow c = search rules
 
-element-copy-out-bottom-flow-2 : tie.Need-element-copy-out-bottom-flow-2
-element-copy-out-bottom-flow-2 c = search rules
+element-copy-out-bottom_flow-2 : tie.Need-element-copy-out-bottom_flow-2
+element-copy-out-bottom_flow-2 c = search rules
 
-bottom-flow-requires : tie.Need-bottom-flow-requires
-bottom-flow-requires c κs =
+bottom_flow-requires : tie.Need-bottom_flow-requires
+bottom_flow-requires c κs =
     let s = c.before.before.before.before in
     let of = s.requires.1.1.1.0 in
     let within = of.excess-within 0 s.requires.0.0 in
@@ -27,16 +27,16 @@ returns : tie.Need-returns
 returns c =
     let s = c.before.before.before.before.before in
     let within = s.requires.1.1.1.0.excess-within 0 s.requires.0.0 in (
-      read_back {z = c.bottom-flow.result} (record { sfits = c.bottom-flow.type-inv }) ∙ (simp (read_back (within_fits tt within)) at c.bottom-flow.ensures),
-      c.before.before.before.flows-above.ensures,
+      read_back {z = c.bottom_flow.result} (record { sfits = c.bottom_flow.type-inv }) ∙ (simp (read_back (within_fits tt within)) at c.bottom_flow.ensures),
+      c.before.before.before.flows_above.ensures,
     )
 
-pub all-flows-spec : {M : Type 1} → statement M
-all-flows-spec =
+pub all_flows_spec : {M : Type 1} → statement M
+all_flows_spec =
     tie.close
     (tie.spec
-    flows-above-requires
-    element-copy-out-bottom-flow
-    element-copy-out-bottom-flow-2
-    bottom-flow-requires
+    flows_above-requires
+    element-copy-out-bottom_flow
+    element-copy-out-bottom_flow-2
+    bottom_flow-requires
     returns)

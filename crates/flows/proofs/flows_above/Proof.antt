@@ -68,42 +68,42 @@ module _ (l : tie.At-loop invariant-loop decreases-loop) where
 loop-holds : tie.Need-loop-init invariant-loop decreases-loop
 loop-holds c = (search rules, sym (filled_zero _ _))
 
-add-loop : tie.Need-overflow-add-loop invariant-loop decreases-loop
+add-loop : tie.Need-overflow_add-loop invariant-loop decreases-loop
 add-loop c = omega arith
 
-add-next : tie.Need-overflow-add-next invariant-loop decreases-loop
+add-next : tie.Need-overflow_add-next invariant-loop decreases-loop
 add-next c = omega arith
 
-mul-flow : tie.Need-overflow-mul-flow invariant-loop decreases-loop
+mul-flow : tie.Need-overflow_mul-flow invariant-loop decreases-loop
 mul-flow c = omega arith
 
 element-copy-out-flow : tie.Need-element-copy-out-flow invariant-loop decreases-loop
 element-copy-out-flow c = omega arith
 
-mul-flow-2 : tie.Need-overflow-mul-flow-2 invariant-loop decreases-loop
+mul-flow-2 : tie.Need-overflow_mul-flow-2 invariant-loop decreases-loop
 mul-flow-2 c = omega arith
 
 element-copy-out-flow-2 : tie.Need-element-copy-out-flow-2 invariant-loop decreases-loop
 element-copy-out-flow-2 c = omega arith
 
-sub-flow : tie.Need-overflow-sub-flow invariant-loop decreases-loop
+sub-flow : tie.Need-overflow_sub-flow invariant-loop decreases-loop
 sub-flow c =
     let l = c.before.before.before in
     simp (read_back (p-fits l (j l) (omega arith)), read_back (p-fits l (j l + 1) (omega arith))) (difference-fits l (omega arith))
 
-mul-flow-3 : tie.Need-overflow-mul-flow-3 invariant-loop decreases-loop
+mul-flow-3 : tie.Need-overflow_mul-flow-3 invariant-loop decreases-loop
 mul-flow-3 c = omega arith
 
 element-copy-out-flow-3 : tie.Need-element-copy-out-flow-3 invariant-loop decreases-loop
 element-copy-out-flow-3 c = omega arith
 
-mul-flow-4 : tie.Need-overflow-mul-flow-4 invariant-loop decreases-loop
+mul-flow-4 : tie.Need-overflow_mul-flow-4 invariant-loop decreases-loop
 mul-flow-4 c = omega arith
 
 element-copy-out-flow-4 : tie.Need-element-copy-out-flow-4 invariant-loop decreases-loop
 element-copy-out-flow-4 c = omega arith
 
-add-flow : tie.Need-overflow-add-flow invariant-loop decreases-loop
+add-flow : tie.Need-overflow_add-flow invariant-loop decreases-loop
 add-flow c = omega (arith, sum-within c.before.before.before.before.before (omega arith))
 
 flow-requires : tie.Need-flow-requires invariant-loop decreases-loop
@@ -112,7 +112,7 @@ flow-requires c κs =
     simp (read_back (p-fits l (j l) (omega arith)), read_back (p-fits l (j l + 1) (omega arith)), read_back (difference-fits l (omega arith)))
     (difference l (omega arith), ((s l).requires.1.1.0, sum-within l (omega arith)))
 
-mul-t29 : tie.Need-overflow-mul-t29 invariant-loop decreases-loop
+mul-t29 : tie.Need-overflow_mul-t29 invariant-loop decreases-loop
 mul-t29 c = omega arith
 
 element-set-from-above : tie.Need-element-set-from-above invariant-loop decreases-loop
@@ -127,13 +127,13 @@ loop-again c =
     let f = simp (read_back (p-fits l (j l) (omega arith)), read_back (p-fits l (j l + 1) (omega arith)), read_back (difference-fits l (omega arith))) at c.flow.ensures.quotient in
     (omega arith, stored l c.flow.result (record { sfits = c.flow.type-inv }) (f ∙ sym (flow_inner _ _ _ _ _ (j l) (omega arith))))
 
-mul-outward : tie.Need-overflow-mul-outward invariant-loop decreases-loop
+mul-outward : tie.Need-overflow_mul-outward invariant-loop decreases-loop
 mul-outward c = omega arith
 
 element-copy-out-outward : tie.Need-element-copy-out-outward invariant-loop decreases-loop
 element-copy-out-outward c = omega arith
 
-mul-outward-2 : tie.Need-overflow-mul-outward-2 invariant-loop decreases-loop
+mul-outward-2 : tie.Need-overflow_mul-outward-2 invariant-loop decreases-loop
 mul-outward-2 c = omega arith
 
 element-copy-out-outward-2 : tie.Need-element-copy-out-outward-2 invariant-loop decreases-loop
@@ -153,7 +153,7 @@ outward-requires c κs =
       ),
     )
 
-mul-t41 : tie.Need-overflow-mul-t41 invariant-loop decreases-loop
+mul-t41 : tie.Need-overflow_mul-t41 invariant-loop decreases-loop
 mul-t41 c = omega arith
 
 element-set-from-above-2 : tie.Need-element-set-from-above-2 invariant-loop decreases-loop
@@ -166,8 +166,8 @@ returns c =
     let f = simp (read_back (p-fits l (j l) (omega arith))) at c.outward.ensures.0 in
     rw e at (stored l c.outward.result (record { sfits = c.outward.type-inv }) (f ∙ outward_same _ _ _ _ ∙ sym (flow_top _ _ _ _ _ (j l) e)))
 
-pub flows-above-spec : {M : Type 1} → statement M
-flows-above-spec =
+pub flows_above_spec : {M : Type 1} → statement M
+flows_above_spec =
     tie.close
     (tie.spec
     invariant-loop

@@ -29,9 +29,9 @@ use Rattle.rules.specs.declared.record.Record.{Record}
 use Rattle.key.proofs.consolidation_key.Statement.{statement}
 use Rattle.key.proofs.consolidation_key.Tie as tie
 
-open-into-requires : tie.Need-open-into-requires
+open_into-requires : tie.Need-open_into-requires
 unfolding zeros
-open-into-requires c κs = (
+open_into-requires c κs = (
   record {
     solids_blank = refl;
     water_blank = refl;
@@ -58,7 +58,7 @@ returns c =
     let o = k.before.before in
     let s = o.before.before.before.before.before.before.before.before.before.before.before.before in
     let job = s.args.job.now in
-    let e = key-refused job s.args.res.now k.opened.given.0.0 (opened_refused job k.opened.given.0.0 (sym o.open-into.ensures.0 ∙ k.opened.given.1)) in
+    let e = key-refused job s.args.res.now k.opened.given.0.0 (opened_refused job k.opened.given.0.0 (sym o.open_into.ensures.0 ∙ k.opened.given.1)) in
     (c.refused.ensures ∙ number_is e, buffer-is e)
 
 enum-known-opened-2 : tie.Need-enum-known-opened-2
@@ -67,7 +67,7 @@ enum-known-opened-2 c = search rules
 -- ---- a job that opening accepts
 
 module _ (c : tie.After-known-told2) where
-  abbrev o : tie.After-open-into
+  abbrev o : tie.After-open_into
   o = c.before.before.before
 
   abbrev s : tie.Start
@@ -86,44 +86,44 @@ module _ (c : tie.After-known-told2) where
   progress = c.before.opened2.given.0.1.1.0
 
   accepted : opened_job job ≡ Opened.Accepted header frame progress
-  accepted = sym o.open-into.ensures.0 ∙ c.before.opened2.given.1
+  accepted = sym o.open_into.ensures.0 ∙ c.before.opened2.given.1
 
   done : (opening job).answer ≡ Done
   done = opened_done job accepted
 
   -- its arrays
   abbrev void : List ℕ
-  void = o.open-into.last.1.0
+  void = o.open_into.last.1.0
 
   abbrev stress : List ℕ
-  stress = o.open-into.last.1.1.0
+  stress = o.open_into.last.1.1.0
 
-  abbrev conductivity-void : List ℕ
-  conductivity-void = o.open-into.last.1.1.1.0
+  abbrev conductivity_void : List ℕ
+  conductivity_void = o.open_into.last.1.1.1.0
 
   abbrev conductivity : List ℕ
-  conductivity = o.open-into.last.1.1.1.1.0
+  conductivity = o.open_into.last.1.1.1.1.0
 
   abbrev solids : List ℕ
-  solids = o.open-into.last.1.1.1.1.1.0
+  solids = o.open_into.last.1.1.1.1.1.0
 
   abbrev water : List ℕ
-  water = o.open-into.last.1.1.1.1.1.1.0
+  water = o.open_into.last.1.1.1.1.1.1.0
 
-  abbrev table-time : List ℕ
-  table-time = o.open-into.last.1.1.1.1.1.1.1.0
+  abbrev table_time : List ℕ
+  table_time = o.open_into.last.1.1.1.1.1.1.1.0
 
   abbrev table_load : List ℕ
-  table_load = o.open-into.last.1.1.1.1.1.1.1.1.0
+  table_load = o.open_into.last.1.1.1.1.1.1.1.1.0
 
   abbrev burden : List ℕ
-  burden = o.open-into.last.1.1.1.1.1.1.1.1.1.0
+  burden = o.open_into.last.1.1.1.1.1.1.1.1.1.0
 
-  held : Pairs (left_description job) solids water void stress conductivity-void conductivity table-time table_load
-  held = o.open-into.ensures.1.0
+  held : Pairs (left_description job) solids water void stress conductivity_void conductivity table_time table_load
+  held = o.open_into.ensures.1.0
 
   abbrev lent : Record
-  lent = record_of (soil_of (counts_of header) void stress conductivity-void conductivity) (layer_of frame progress solids water table-time table_load)
+  lent = record_of (soil_of (counts_of header) void stress conductivity_void conductivity) (layer_of frame progress solids water table_time table_load)
 
   lent_is : lent ≡ (opening job).after
   lent_is = sym (opened_record_lem job accepted held)
@@ -137,7 +137,7 @@ module _ (c : tie.After-known-told2) where
 
   burden-is : burden ≡ burdens_in frame solids
   unfolding frame_of zeros
-  burden-is = o.open-into.ensures.1.1 ∙ opened_burden job accepted held _ ∙ ap (λ (f : Frame). burdens_in f solids) (sym frame_is)
+  burden-is = o.open_into.ensures.1.1 ∙ opened_burden job accepted held _ ∙ ap (λ (f : Frame). burdens_in f solids) (sym frame_is)
 
   can-run : (progress.clock.0 ≤ header.end) × (header.end ≤ clock_limits.most) × (header.budget ≤ budget_limits.most)
   can-run =
@@ -147,8 +147,8 @@ module _ (c : tie.After-known-told2) where
       let (end_most, budget_most) = end_and_budget job done in
       (omega arith, omega arith, omega arith)
 
-run-to-result-requires : tie.Need-run-to-result-requires
-run-to-result-requires c κs =
+run_to_result-requires : tie.Need-run_to_result-requires
+run_to_result-requires c κs =
     let k = c.before.before.before.before.before.before.before.before.before.before in
     (subst (λ (r : Record). is_layer r ≡ true) (sym (lent_is k)) (opened_layer (job k) (done k)), (can-run k, (ap (λ (r : Record). length r.layer.water) (lent_is k) ∙ opened_long (job k) (done k), burden-is k)))
 
@@ -164,17 +164,17 @@ returns-2 c =
     let e : key (job k) result ≡ run (lent k) (header k) =
     key_run (job k) (done k) result ∙ ap (λ (h : Header). run (opening (job k)).after h) (sym (opened_header (job k) (accepted k))) ∙
     ap (λ (x : Record). run x (header k)) (sym (lent_is k)) in
-    (r.run-to-result.ensures.0 ∙ number_is e, r.run-to-result.ensures.1.0 ∙ buffer-is e)
+    (r.run_to_result.ensures.0 ∙ number_is e, r.run_to_result.ensures.1.0 ∙ buffer-is e)
 
-pub consolidation-key-spec : {M : Type 1} → statement M
-consolidation-key-spec =
+pub consolidation_key_spec : {M : Type 1} → statement M
+consolidation_key_spec =
     tie.close
     (tie.spec
-    open-into-requires
+    open_into-requires
     enum-known-opened
     refused-requires
     enum-known-opened-2
-    run-to-result-requires
+    run_to_result-requires
     returns
     same_length
     returns-2)

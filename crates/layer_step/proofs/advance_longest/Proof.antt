@@ -70,5 +70,5 @@ returns-3 c =
     let gives = is_on_curve a.top a.bottom a.elements a.low.now a.high.now a.water.now a.excess.now a.resistance.now a.above.now (l v).longest.result (longest-is (l v)) (positive v) (sym c.before.first.given.1 ∙ gave.0) gave.1.0 gave.1.1 in
     (simp (first_back, last-back) gives.0, (gives.1, gives.2))
 
-pub advance-longest-spec : {M : Type 1} → statement M
-advance-longest-spec = tie.close (tie.spec longest-requires returns advance-requires enum_told enum-known-first returns-2 returns-3)
+pub advance_longest_spec : {M : Type 1} → statement M
+advance_longest_spec = tie.close (tie.spec longest-requires returns advance-requires enum_told enum-known-first returns-2 returns-3)

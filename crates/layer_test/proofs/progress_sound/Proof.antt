@@ -11,11 +11,11 @@ use Rattle.rules.specs.declared.record.Progress.{Progress}
 use Rattle.layer_test.proofs.progress_sound.Statement.{statement}
 use Rattle.layer_test.proofs.progress_sound.Tie as tie
 
-is-stress-requires : tie.Need-is-stress-requires
-is-stress-requires c κs = search rules
+is_stress-requires : tie.Need-is_stress-requires
+is_stress-requires c κs = search rules
 
 returns : tie.Need-returns
-returns c = rw (sym c.before.is-stress.ensures ∙ not-true _ c.if1.true)
+returns c = rw (sym c.before.is_stress.ensures ∙ not-true _ c.if1.true)
 
 new-requires : tie.Need-new-requires
 new-requires c κs = search rules
@@ -31,7 +31,7 @@ p c = c.before.before.before.before.before.before.before.args.progress
 
 -- the load is a stress
 load-true : (c : tie.After-new) → within_ℤ stress_limits (p c).load.0 ≡ true
-load-true c = sym c.before.before.is-stress.ensures ∙ not-false _ c.before.if1.false
+load-true c = sym c.before.before.is_stress.ensures ∙ not-false _ c.before.if1.false
 
 returns-2 : tie.Need-returns-2
 returns-2 c =
@@ -69,11 +69,11 @@ returns-3 c =
     let t = c.before.before.before in
     rw (load-true (n t), (told t).0, c.before.before.within.ensures, c.before.within2.ensures, c.within3.ensures, now-is t)
 
-pub progress-sound-spec : {M : Type 1} → statement M
-progress-sound-spec =
+pub progress_sound_spec : {M : Type 1} → statement M
+progress_sound_spec =
     tie.close
     (tie.spec
-    is-stress-requires
+    is_stress-requires
     returns
     new-requires
     enum-known-now

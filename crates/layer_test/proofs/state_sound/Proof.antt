@@ -25,7 +25,7 @@ use Rattle.layer_test.proofs.state_sound.Statement.{statement}
 use Rattle.layer_test.proofs.state_sound.Tie as tie
 
 -- what each test told
-module _ (c : tie.After-all-on-curve) where
+module _ (c : tie.After-all_on_curve) where
   abbrev start : tie.Start
   start = c.before.before.before.before.before.before.before.before.before.before
 
@@ -35,12 +35,12 @@ module _ (c : tie.After-all-on-curve) where
   facts : SiteFacts r
   facts = site_facts r start.pre
 
-  on-is : c.all-on-curve.result ≡ all_on_curve (skeleton (record_site r)) (record_site r).solids (map pos (record_state r).water)
+  on-is : c.all_on_curve.result ≡ all_on_curve (skeleton (record_site r)) (record_site r).solids (map pos (record_state r).water)
   unfolding record_site record_state
-  on-is = c.all-on-curve.ensures
+  on-is = c.all_on_curve.ensures
 
-all-on-curve-requires : tie.Need-all-on-curve-requires
-all-on-curve-requires c κs =
+all_on_curve-requires : tie.Need-all_on_curve-requires
+all_on_curve-requires c κs =
     let s = c.before.before.before.before.before.before.before.before.before in
     let facts = site_facts s.args.t1 s.requires in (
       facts.header.elements-kept.most,
@@ -53,11 +53,11 @@ all-on-curve-requires c κs =
 returns : tie.Need-returns
 returns c = let f = c.before in sym (state_by (r f) (sym (on-is f) ∙ not-true _ c.if1.true) refl refl refl refl refl refl)
 
-progress-sound-requires : tie.Need-progress-sound-requires
-progress-sound-requires c κs = search rules
+progress_sound-requires : tie.Need-progress_sound-requires
+progress_sound-requires c κs = search rules
 
-module _ (c : tie.After-progress-sound) where
-  abbrev f₁ : tie.After-all-on-curve
+module _ (c : tie.After-progress_sound) where
+  abbrev f₁ : tie.After-all_on_curve
   f₁ = c.before.before
 
   abbrev r₁ : Record
@@ -89,15 +89,15 @@ module _ (c : tie.After-progress-sound) where
   by-numbers e = state_by r₁ on-true refl refl refl refl refl refl ∙ ap (λ (sound : Bool). sound && balanced) e
 
 returns-2 : tie.Need-returns-2
-returns-2 c = let f = c.before in sym (by-numbers f (sym f.progress-sound.ensures ∙ not-true _ c.if2.true))
+returns-2 c = let f = c.before in sym (by-numbers f (sym f.progress_sound.ensures ∙ not-true _ c.if2.true))
 
 -- the numbers keep their limits
 module _ (c : tie.Else2) where
-  abbrev f₂ : tie.After-progress-sound
+  abbrev f₂ : tie.After-progress_sound
   f₂ = c.before
 
   limited-true : limited f₂ ≡ true
-  limited-true = sym f₂.progress-sound.ensures ∙ not-false _ c.if2.false
+  limited-true = sym f₂.progress_sound.ensures ∙ not-false _ c.if2.false
 
   abbrev of : Progress
   of = p f₂
@@ -114,30 +114,30 @@ module _ (c : tie.Else2) where
         outflow_bound of.top_outflow.0 of.clock.0 (is_true top above),
       )
 
-total-water-requires : tie.Need-total-water-requires
-total-water-requires c κs =
+total_water-requires : tie.Need-total_water-requires
+total_water-requires c κs =
     let facts = facts (f₁ (f₂ c.before.before)) in
     (facts.header.elements-kept.most, facts.sizes.water-most)
 
 balances-requires : tie.Need-balances-requires
 balances-requires c κs =
     let (started, timed, above) = numbers c.before.before.before in
-    ((started, c.total-water.ensures.1), within_le above (omega arith))
+    ((started, c.total_water.ensures.1), within_le above (omega arith))
 
 returns-3 : tie.Need-returns-3
 returns-3 c =
     let e = c.before.before.before.before in
-    let told : c.balances.result ≡ balance (f₂ e) c.before.total-water.result = c.balances.ensures in
-    told ∙ ap (balance (f₂ e)) c.before.total-water.ensures.0 ∙ sym (by-numbers (f₂ e) (limited-true e))
+    let told : c.balances.result ≡ balance (f₂ e) c.before.total_water.result = c.balances.ensures in
+    told ∙ ap (balance (f₂ e)) c.before.total_water.ensures.0 ∙ sym (by-numbers (f₂ e) (limited-true e))
 
-pub state-sound-spec : {M : Type 1} → statement M
-state-sound-spec =
+pub state_sound_spec : {M : Type 1} → statement M
+state_sound_spec =
     tie.close
     (tie.spec
-    all-on-curve-requires
+    all_on_curve-requires
     returns
-    progress-sound-requires
+    progress_sound-requires
     returns-2
-    total-water-requires
+    total_water-requires
     balances-requires
     returns-3)

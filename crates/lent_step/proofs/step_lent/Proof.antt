@@ -13,8 +13,8 @@ module _ (s : tie.Start) where
   abbrev r : Record
   r =
       let a = s.args in
-      record_of (soil_of a.counts a.void.now a.stress.now a.conductivity-void.now a.conductivity.now)
-      (layer_of a.frame a.progress a.solids.now a.water.now a.table-time.now a.table_load.now)
+      record_of (soil_of a.counts a.void.now a.stress.now a.conductivity_void.now a.conductivity.now)
+      (layer_of a.frame a.progress a.solids.now a.water.now a.table_time.now a.table_load.now)
 
   abbrev is : is_layer r ≡ true
   is = s.pre.0
@@ -25,13 +25,13 @@ prepare-requires c κs =
     let curves = soil (r s) (is s) in
     ((counted (r s) (is s)).1, (solid (r s) (is s), ((curves.compressibility_few, curves.compressibility_many, curves.compressibility_is_sound), (refl, refl, refl))))
 
-read-layer-requires : tie.Need-read-layer-requires
-read-layer-requires c κs =
+read_layer-requires : tie.Need-read_layer-requires
+read_layer-requires c κs =
     let s = c.before.before.before.before.before.before.before in
     (stands_held (r s) (is s), ((counted (r s) (is s)).1, (weighted (r s) (is s), (refl, refl))))
 
 -- the layer is set up and read
-module _ (c : tie.After-read-layer) where
+module _ (c : tie.After-read_layer) where
   abbrev set-up : tie.After-prepare
   set-up = c.before.before.before.before
 
@@ -40,7 +40,7 @@ module _ (c : tie.After-read-layer) where
 
   read :
       ReadAs (r s₁) s₁.args.frame s₁.args.progress set-up.prepare.result set-up.prepare.last.1.1.1.1.1.0 set-up.prepare.last.1.1.1.1.1.1.0 set-up.prepare.last.1.1.1.1.1.1.1.0
-      c.read-layer.new.1.1.1.1.1.1.1.1.1.0 c.read-layer.new.1.1.1.1.1.1.1.1.1.1.0 s₁.args.water.now
+      c.read_layer.new.1.1.1.1.1.1.1.1.1.0 c.read_layer.new.1.1.1.1.1.1.1.1.1.1.0 s₁.args.water.now
   unfolding zeros
   read = record {
     is = is s₁;
@@ -51,19 +51,19 @@ module _ (c : tie.After-read-layer) where
     sensitivity-is = set-up.prepare.ensures.1.0;
     low_is = set-up.prepare.ensures.1.1.0;
     high_is = set-up.prepare.ensures.1.1.1;
-    excess-is = c.read-layer.ensures.0;
-    resistance-is = c.read-layer.ensures.1;
+    excess-is = c.read_layer.ensures.0;
+    resistance-is = c.read_layer.ensures.1;
   }
 
-step-read-requires : tie.Need-step-read-requires
-step-read-requires c κs =
+step_read-requires : tie.Need-step_read-requires
+step_read-requires c κs =
     let f = c.before.before.before.before.before.before in
     (record { r = r (s₁ f); read = read f }, ((s₁ f).requires.1.0, (s₁ f).requires.1.1))
 
 returns : tie.Need-returns
 returns c =
     let f = c.before.before.before.before.before.before.before in
-    c.step-read.ensures (r (s₁ f)) (read f)
+    c.step_read.ensures (r (s₁ f)) (read f)
 
-pub step-lent-spec : {M : Type 1} → statement M
-step-lent-spec = tie.close (tie.spec prepare-requires read-layer-requires step-read-requires returns)
+pub step_lent_spec : {M : Type 1} → statement M
+step_lent_spec = tie.close (tie.spec prepare-requires read_layer-requires step_read-requires returns)

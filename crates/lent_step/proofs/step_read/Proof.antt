@@ -109,8 +109,8 @@ module _ (top bottom : Face) (t n : ℕ) {excess excess' : List ℤ} {resistance
       water_in n low' high' water (flows_in top bottom t n excess' resistance') ≡ water_in n low high water (flows_in top bottom t n excess resistance)
   water-as = rw (p, q, u, v) refl
 
-too-long-requires : tie.Need-too-long-requires
-too-long-requires c κs =
+too_long-requires : tie.Need-too_long-requires
+too_long-requires c κs =
     let g = c.requires.0.read in (
       counted (r c g) (is c g),
       (
@@ -121,7 +121,7 @@ too-long-requires c κs =
 
 -- ---- whether the step is too long
 
-module _ (c : tie.After-too-long) {x : Record} (given : Given c.before x) where
+module _ (c : tie.After-too_long) {x : Record} (given : Given c.before x) where
   abbrev s : tie.Start
   s = c.before
 
@@ -301,11 +301,11 @@ returns-3 c x given =
     sym (on_layer r (Step (t s)) (record { answer = Done; events = step_taken (t s) ∷ [] }) (is s given)
     (step_taken_lem (record_site r) (record_state r) (t s) s.pre.1.0.0 s.pre.1.0.1 (short (a k) given) (leaves-is r (is s given) nothing none (t s) ∙ ap not (flowed k given).0))))
 
-pub step-read-spec : {M : Type 1} → statement M
-step-read-spec =
+pub step_read_spec : {M : Type 1} → statement M
+step_read_spec =
     tie.close
     (tie.spec
-    too-long-requires
+    too_long-requires
     returns
     advance-requires
     enum_told

@@ -21,8 +21,8 @@ use Rattle.rules.specs.declared.record.Record.{Record}
 use Rattle.load.proofs.set_load.Statement.{statement}
 use Rattle.load.proofs.set_load.Tie as tie
 
-is-layer-requires : tie.Need-is-layer-requires
-is-layer-requires c κs = search rules
+is_layer-requires : tie.Need-is_layer-requires
+is_layer-requires c κs = search rules
 
 refused-requires : tie.Need-refused-requires
 refused-requires c κs = search rules
@@ -70,8 +70,8 @@ enum-known-pressure c = search rules
 loaded-requires : tie.Need-loaded-requires
 loaded-requires c κs = search rules
 
-with-parts-requires : tie.Need-with-parts-requires
-with-parts-requires c κs = search rules
+with_parts-requires : tie.Need-with_parts-requires
+with_parts-requires c κs = search rules
 
 returns-3 : tie.Need-returns-3
 unfolding with_events after_events after_event with_load record_state
@@ -82,17 +82,17 @@ returns-3 c =
     let tells = pressure_tells load (sym p.pressure.given.1 ∙ n.new.ensures) in
     let set = with_load (pos load) (record_state (r n)) in
     let progress = c.before.loaded.ensures ∙ ap (loaded (r n).layer.progress) tells.1 in
-    let parts : c.with-parts.result ≡ with_parts (r n) (r n).layer.water (loaded (r n).layer.progress (pressure (pos load))) =
-    c.with-parts.ensures ∙ ap (with_parts (r n) (r n).layer.water) progress in
+    let parts : c.with_parts.result ≡ with_parts (r n) (r n).layer.water (loaded (r n).layer.progress (pressure (pos load))) =
+    c.with_parts.ensures ∙ ap (with_parts (r n) (r n).layer.water) progress in
     in_numbers (r n) (Load load)
     (ap (λ (x : Record). record { answer = Done; after = x }) (parts ∙ own_water (r n) set (omega (arith, long n, (counted (r n) (standing n)).1)) refl) ∙
     sym (on_layer (r n) (Load load) (record { answer = Done; events = load_set (pos load) ∷ [] }) (standing n) (load_set_lem _ _ load tells.0)))
 
-pub set-load-spec : {M : Type 1} → statement M
-set-load-spec =
+pub set_load_spec : {M : Type 1} → statement M
+set_load_spec =
     tie.close
     (tie.spec
-    is-layer-requires
+    is_layer-requires
     refused-requires
     returns
     new-requires
@@ -100,6 +100,6 @@ set-load-spec =
     refused-requires-2
     enum-known-pressure
     loaded-requires
-    with-parts-requires
+    with_parts-requires
     returns-2
     returns-3)

@@ -24,11 +24,11 @@ open-requires c κs = search rules
 enum_told : tie.Need-enum-told
 enum_told c = search rules
 
-run-job-requires : tie.Need-run-job-requires
-run-job-requires c κs = search rules
+run_job-requires : tie.Need-run_job-requires
+run_job-requires c κs = search rules
 
-answer-record-requires : tie.Need-answer-record-requires
-answer-record-requires c κs = search rules
+answer_record-requires : tie.Need-answer_record-requires
+answer_record-requires c κs = search rules
 
 enum-told-2 : tie.Need-enum-told-2
 enum-told-2 c = search rules
@@ -51,8 +51,8 @@ returns c =
     line_written (division_output s.args.job.now s.args.t) _ s.args.out.now _ _
     (opened_output s.args.job.now s.args.t (done e) ∙
     sym (ap (λ (r : Record). worked_output r s.args.t)
-    (ran.run-job.ensures ∙ ap (λ (a : Answered). job_run s.args.job.now a.after) e.before.before.before.«open».ensures.0)))
-    a.answer-record.ensures
+    (ran.run_job.ensures ∙ ap (λ (a : Answered). job_run s.args.job.now a.after) e.before.before.before.«open».ensures.0)))
+    a.answer_record.ensures
 
 returns-2 : tie.Need-returns-2
 returns-2 c =
@@ -72,14 +72,14 @@ returns-3 c =
     (sym (ap (λ (a : Answered). a.answer) k.before.before.before.before.«open».ensures.0) ∙ k.before.answer.given.1))
     f.refuse.ensures
 
-pub answer-spec : {M : Type 1} → statement M
-answer-spec =
+pub answer_spec : {M : Type 1} → statement M
+answer_spec =
     tie.close
     (tie.spec
     open-requires
     enum_told
-    run-job-requires
-    answer-record-requires
+    run_job-requires
+    answer_record-requires
     enum-told-2
     enum-known-answer
     refuse-requires

@@ -7,47 +7,47 @@ use Rattle.long_division.proofs.Writing.{front}
 use Rattle.long_division.proofs.main.Statement.{statement}
 use Rattle.long_division.proofs.main.Tie as tie
 
-slice-aggregate-read-full : tie.Need-slice-aggregate-read-full
-slice-aggregate-read-full c = search rules
+slice-aggregate-read_full : tie.Need-slice-aggregate-read_full
+slice-aggregate-read_full c = search rules
 
-read-full-requires : tie.Need-read-full-requires
-read-full-requires c κs = search rules
+read_full-requires : tie.Need-read_full-requires
+read_full-requires c κs = search rules
 
-slice-aggregate-job-length : tie.Need-slice-aggregate-job-length
-slice-aggregate-job-length c = search rules
+slice-aggregate-job_length : tie.Need-slice-aggregate-job_length
+slice-aggregate-job_length c = search rules
 
-job-length-requires : tie.Need-job-length-requires
-job-length-requires c κs = search rules
+job_length-requires : tie.Need-job_length-requires
+job_length-requires c κs = search rules
 
 array-borrow-prefix-job : tie.Need-array-borrow-prefix-job
 array-borrow-prefix-job c = search rules
 
-slice-aggregate-read-full-2 : tie.Need-slice-aggregate-read-full-2
-slice-aggregate-read-full-2 c = sym (length-take-le _ _ (omega arith))
+slice-aggregate-read_full-2 : tie.Need-slice-aggregate-read_full-2
+slice-aggregate-read_full-2 c = sym (length-take-le _ _ (omega arith))
 
-read-full-requires-2 : tie.Need-read-full-requires-2
-read-full-requires-2 c κs = search rules
+read_full-requires-2 : tie.Need-read_full-requires-2
+read_full-requires-2 c κs = search rules
 
-slice-aggregate-read-full-3 : tie.Need-slice-aggregate-read-full-3
-slice-aggregate-read-full-3 c = search rules
+slice-aggregate-read_full-3 : tie.Need-slice-aggregate-read_full-3
+slice-aggregate-read_full-3 c = search rules
 
-read-full-requires-3 : tie.Need-read-full-requires-3
-read-full-requires-3 c κs = search rules
+read_full-requires-3 : tie.Need-read_full-requires-3
+read_full-requires-3 c κs = search rules
 
 array-share-prefix-job : tie.Need-array-share-prefix-job
 array-share-prefix-job c =
-    let read = c.before.before.before.before.read-full2 in front _ read.new.1.0 _ read.ensures.0
+    let read = c.before.before.before.before.read_full2 in front _ read.new.1.0 _ read.ensures.0
 
 slice-aggregate-answer : tie.Need-slice-aggregate-answer
 slice-aggregate-answer c =
-    let read = c.before.before.before.before.before.read-full2 in
+    let read = c.before.before.before.before.before.read_full2 in
     sym (length-take-le _ _ (front _ read.new.1.0 _ read.ensures.0))
 
-slice-aggregate-word-at : tie.Need-slice-aggregate-word-at
-slice-aggregate-word-at c = search rules
+slice-aggregate-word_at : tie.Need-slice-aggregate-word_at
+slice-aggregate-word_at c = search rules
 
-word-at-requires : tie.Need-word-at-requires
-word-at-requires c κs = search rules
+word_at-requires : tie.Need-word_at-requires
+word_at-requires c κs = search rules
 
 slice-aggregate-answer-2 : tie.Need-slice-aggregate-answer-2
 slice-aggregate-answer-2 c = search rules
@@ -58,11 +58,11 @@ answer-requires c κs = search rules
 array-share-prefix-out : tie.Need-array-share-prefix-out
 array-share-prefix-out c = written_fits _ _ _ _ c.before.answer.ensures
 
-slice-aggregate-write-all : tie.Need-slice-aggregate-write-all
-slice-aggregate-write-all c = sym (length-take-le _ _ (written_fits _ _ _ _ c.before.before.answer.ensures))
+slice-aggregate-write_all : tie.Need-slice-aggregate-write_all
+slice-aggregate-write_all c = sym (length-take-le _ _ (written_fits _ _ _ _ c.before.before.answer.ensures))
 
-write-all-requires : tie.Need-write-all-requires
-write-all-requires c κs = search rules
+write_all-requires : tie.Need-write_all-requires
+write_all-requires c κs = search rules
 
 returns : tie.Need-returns
 returns c = search rules
@@ -71,22 +71,22 @@ pub main_spec : {M : Type 1} → statement M
 main_spec =
     tie.close
     (tie.spec
-    slice-aggregate-read-full
-    read-full-requires
-    slice-aggregate-job-length
-    job-length-requires
+    slice-aggregate-read_full
+    read_full-requires
+    slice-aggregate-job_length
+    job_length-requires
     array-borrow-prefix-job
-    slice-aggregate-read-full-2
-    read-full-requires-2
-    slice-aggregate-read-full-3
-    read-full-requires-3
+    slice-aggregate-read_full-2
+    read_full-requires-2
+    slice-aggregate-read_full-3
+    read_full-requires-3
     array-share-prefix-job
     slice-aggregate-answer
-    slice-aggregate-word-at
-    word-at-requires
+    slice-aggregate-word_at
+    word_at-requires
     slice-aggregate-answer-2
     answer-requires
     array-share-prefix-out
-    slice-aggregate-write-all
-    write-all-requires
+    slice-aggregate-write_all
+    write_all-requires
     returns)

@@ -4,16 +4,16 @@ use Rattle.answers.proofs.Causes.{cause_numbered}
 use Rattle.long_division.proofs.refuse.Statement.{statement}
 use Rattle.long_division.proofs.refuse.Tie as tie
 
-refusal-number-requires : tie.Need-refusal-number-requires
-refusal-number-requires c κs = search rules
+refusal_number-requires : tie.Need-refusal_number-requires
+refusal_number-requires c κs = search rules
 
-cast-refused-line : tie.Need-overflow-cast-refused-line
-cast-refused-line c = let (_, few) = cause_numbered c.before.before.args.cause in search rules
+cast-refused_line : tie.Need-overflow_cast-refused_line
+cast-refused_line c = let (_, few) = cause_numbered c.before.before.args.cause in search rules
 
-refused-line-requires : tie.Need-refused-line-requires
-refused-line-requires c κs =
+refused_line-requires : tie.Need-refused_line-requires
+refused_line-requires c κs =
     let (_, few) = cause_numbered c.before.before.before.args.cause in
-    (omega (arith, c.before.refusal-number.ensures, few), search rules)
+    (omega (arith, c.before.refusal_number.ensures, few), search rules)
 
 same_length : tie.Need-same-length
 same_length c = search rules
@@ -21,9 +21,9 @@ same_length c = search rules
 returns : tie.Need-returns
 returns c =
     let l = c.before.before in
-    rw (← l.before.before.refusal-number.ensures) l.refused-line.ensures
+    rw (← l.before.before.refusal_number.ensures) l.refused_line.ensures
 
-pub refuse-spec : {M : Type 1} → statement M
-refuse-spec =
+pub refuse_spec : {M : Type 1} → statement M
+refuse_spec =
     tie.close
-    (tie.spec refusal-number-requires cast-refused-line refused-line-requires same_length returns)
+    (tie.spec refusal_number-requires cast-refused_line refused_line-requires same_length returns)

@@ -32,7 +32,7 @@ flow-as t is divided = rw (← is) divided.quotient
 remainder-as : {face here : OpenFace} {r : ℤ} (t : ℕ) → face ≡ here → Left (face.difference *ℤ pos t) face.resistance r → r ≡ remainder_at t here
 remainder-as t is left = rw (← is) left.remainder_is
 
-module _ (c : tie.After-face-at invariant-loop decreases-loop) where
+module _ (c : tie.After-face_at invariant-loop decreases-loop) where
   abbrev l : tie.At-loop invariant-loop decreases-loop
   l = c.before.before
 
@@ -42,18 +42,18 @@ module _ (c : tie.After-face-at invariant-loop decreases-loop) where
   abbrev here : OpenFace
   here = face_in s.args.elements s.args.top s.args.bottom s.args.excess.now s.args.resistance.now l.loop.k
 
-  face_is : c.face-at.result ≡ here
-  face_is = c.face-at.ensures
+  face_is : c.face_at.result ≡ here
+  face_is = c.face_at.ensures
 
   counted : (l.loop.k < face_count s.args.elements s.args.top s.args.bottom) × (l.loop.k < 129)
-  counted = let (is, most) = l.before.face-count.ensures in (rw (← is) (omega arith), omega (arith, most))
+  counted = let (is, most) = l.before.face_count.ensures in (rw (← is) (omega arith), omega (arith, most))
 
-  ranged : Ranged c.face-at.result
+  ranged : Ranged c.face_at.result
   ranged =
       rw face_is
       (face_ranged s.args.elements s.args.top s.args.bottom s.args.excess.now s.args.resistance.now s.pre.0.0 s.pre.1.0.0 s.pre.1.0.1 s.pre.1.1.1.0 l.loop.k counted.0)
 
-  difference-back : to_z w64 (of_z w64 c.face-at.result.difference) ≡ c.face-at.result.difference
+  difference-back : to_z w64 (of_z w64 c.face_at.result.difference) ≡ c.face_at.result.difference
   difference-back = read_back (within_fits tt ranged.difference_within)
 
 -- what is stored has room
@@ -62,26 +62,26 @@ stored-room : (l : tie.At-loop invariant-loop decreases-loop) → let s = l.befo
 stored-room l =
     let s = l.before.before in
     let (room, long) = s.requires.1.1.1.1 in
-    let is = l.before.face-count.ensures.0 in
+    let is = l.before.face_count.ensures.0 in
     (omega (arith, room, is, l.loop.invariant.0), omega (arith, long, is, l.loop.invariant.0))
 
-face-count-requires : tie.Need-face-count-requires invariant-loop decreases-loop
-face-count-requires c κs = search rules
+face_count-requires : tie.Need-face_count-requires invariant-loop decreases-loop
+face_count-requires c κs = search rules
 
 loop-holds : tie.Need-loop-init invariant-loop decreases-loop
 loop-holds c = (omega arith, sym (filled_zero _ _), sym (filled_zero _ _))
 
-face-at-requires : tie.Need-face-at-requires invariant-loop decreases-loop
-face-at-requires c κs =
+face_at-requires : tie.Need-face_at-requires invariant-loop decreases-loop
+face_at-requires c κs =
     let s = c.before.before.before in
-    (s.requires.0, (s.requires.1.0, (s.requires.1.1.1.0, rw (← c.before.before.face-count.ensures.0) (omega arith))))
+    (s.requires.0, (s.requires.1.0, (s.requires.1.1.1.0, rw (← c.before.before.face_count.ensures.0) (omega arith))))
 
 flow-requires : tie.Need-flow-requires invariant-loop decreases-loop
 flow-requires c κs =
     let f = c.before in
     rw (difference-back f) ((ranged f).difference_within, ((s f).requires.1.1.0, ((ranged f).resistance_positive, (ranged f).resistance-most)))
 
-mul-remainders : tie.Need-overflow-mul-remainders invariant-loop decreases-loop
+mul-remainders : tie.Need-overflow_mul-remainders invariant-loop decreases-loop
 mul-remainders c = omega (arith, counted c.before.before)
 
 slice-set-from-remainders : tie.Need-slice-set-from-remainders invariant-loop decreases-loop
@@ -89,12 +89,12 @@ slice-set-from-remainders c =
     let f = c.before.before in
     rw (l f).loop.invariant.1 (omega (arith, counted f, (s f).requires.1.1.1.1, length-filled (s f).args.flows.now (l f).loop.k (λ i. flow_at (s f).args.t (face_in (s f).args.elements (s f).args.top (s f).args.bottom (s f).args.excess.now (s f).args.resistance.now i)) (stored-room (l f)).0))
 
-flow-remainder-requires : tie.Need-flow-remainder-requires invariant-loop decreases-loop
-flow-remainder-requires c κs =
+flow_remainder-requires : tie.Need-flow_remainder-requires invariant-loop decreases-loop
+flow_remainder-requires c κs =
     let f = c.before.before.before in
     rw (difference-back f) ((ranged f).difference_within, ((s f).requires.1.1.0, ((ranged f).resistance_positive, (ranged f).resistance-most)))
 
-mul-t14 : tie.Need-overflow-mul-t14 invariant-loop decreases-loop
+mul-t14 : tie.Need-overflow_mul-t14 invariant-loop decreases-loop
 mul-t14 c = omega (arith, counted c.before.before.before.before)
 
 slice-set-from-remainders-2 : tie.Need-slice-set-from-remainders-2 invariant-loop decreases-loop
@@ -102,7 +102,7 @@ slice-set-from-remainders-2 c =
     let f = c.before.before.before.before in
     rw (l f).loop.invariant.2 (omega (arith, counted f, (s f).requires.1.1.1.1, length-filled (s f).args.remainders.now (l f).loop.k (λ i. remainder_at (s f).args.t (face_in (s f).args.elements (s f).args.top (s f).args.bottom (s f).args.excess.now (s f).args.resistance.now i)) (stored-room (l f)).1))
 
-add-k : tie.Need-overflow-add-k invariant-loop decreases-loop
+add-k : tie.Need-overflow_add-k invariant-loop decreases-loop
 add-k c = omega (arith, counted c.before.before.before.before)
 
 loop-less : tie.Need-loop-smaller invariant-loop decreases-loop
@@ -113,7 +113,7 @@ loop-again c =
     let f = c.before.before.before.before in
     let a = (s f).args in
     let flow = c.before.before.flow in
-    let left = c.flow-remainder in
+    let left = c.flow_remainder in
     let (room, long) = (s f).requires.1.1.1.1 in (
       omega arith,
       rw (read_back {z = flow.result} (record { sfits = flow.type-inv }))
@@ -135,23 +135,23 @@ same-length-2 c =
 returns : tie.Need-returns invariant-loop decreases-loop
 returns c =
     let l = c.before in
-    let is = l.before.face-count.ensures.0 in
-    let e : l.loop.k ≡ l.before.face-count.result = omega arith in
+    let is = l.before.face_count.ensures.0 in
+    let e : l.loop.k ≡ l.before.face_count.result = omega arith in
     (is, (filled_done _ _ _ _ _ l.loop.invariant.1 (e ∙ is), filled_done _ _ _ _ _ l.loop.invariant.2 (e ∙ is)))
 
-pub divide-faces-spec : {M : Type 1} → statement M
-divide-faces-spec =
+pub divide_faces_spec : {M : Type 1} → statement M
+divide_faces_spec =
     tie.close
     (tie.spec
     invariant-loop
     decreases-loop
-    face-count-requires
+    face_count-requires
     loop-holds
-    face-at-requires
+    face_at-requires
     flow-requires
     mul-remainders
     slice-set-from-remainders
-    flow-remainder-requires
+    flow_remainder-requires
     mul-t14
     slice-set-from-remainders-2
     add-k

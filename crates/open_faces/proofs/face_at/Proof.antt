@@ -42,7 +42,7 @@ module _ (s : tie.Start) where
       within_fits tt apart
 
 -- where an element stands whose upper face this is
-module _ (c : tie.After-face-number) where
+module _ (c : tie.After-face_number) where
   abbrev b : ℕ
   b = c.face_number_lem.result
 
@@ -62,17 +62,17 @@ module _ (c : tie.After-face-number) where
       let s = c.before in
       omega (arith, c.face_number_lem.ensures, face_most s.args.top, s.requires.0, s.requires.1.1.1)
 
-face-number-requires : tie.Need-face-number-requires
-face-number-requires c κs = search rules
+face_number-requires : tie.Need-face_number-requires
+face_number-requires c κs = search rules
 
-element-copy-out-outer-face : tie.Need-element-copy-out-outer-face
-element-copy-out-outer-face c = search rules
+element-copy-out-outer_face : tie.Need-element-copy-out-outer_face
+element-copy-out-outer_face c = search rules
 
-element-copy-out-outer-face-2 : tie.Need-element-copy-out-outer-face-2
-element-copy-out-outer-face-2 c = search rules
+element-copy-out-outer_face-2 : tie.Need-element-copy-out-outer_face-2
+element-copy-out-outer_face-2 c = search rules
 
-outer-face-requires : tie.Need-outer-face-requires
-outer-face-requires c κs =
+outer_face-requires : tie.Need-outer_face-requires
+outer_face-requires c κs =
     let s = c.before.before.before.before in
     simp (read_back (p-fits s 0 s.requires.0.0)) (s.requires.1.0.1, (readable s).excess-within 0 s.requires.0.0)
 
@@ -80,43 +80,43 @@ returns : tie.Need-returns
 returns c =
     let s = c.before.before.before.before.before in
     let here : s.args.k < face_number s.args.bottom = rw (← c.before.before.before.before.face_number_lem.ensures) (omega arith) in
-    (simp (read_back (p-fits s 0 s.requires.0.0)) at c.outer-face.ensures) ∙
+    (simp (read_back (p-fits s 0 s.requires.0.0)) at c.outer_face.ensures) ∙
     sym (face_bottom (n s) s.args.top s.args.bottom s.args.excess.now s.args.resistance.now s.requires.0.0 s.args.k here)
 
-add-next : tie.Need-overflow-add-next
+add-next : tie.Need-overflow_add-next
 add-next c = omega (arith, bounded c.before)
 
-mul-t18 : tie.Need-overflow-mul-t18
+mul-t18 : tie.Need-overflow_mul-t18
 mul-t18 c = search rules
 
 element-copy-out-t21 : tie.Need-element-copy-out-t21
 element-copy-out-t21 c = search rules
 
-mul-t22 : tie.Need-overflow-mul-t22
+mul-t22 : tie.Need-overflow_mul-t22
 mul-t22 c = search rules
 
 element-copy-out-t25 : tie.Need-element-copy-out-t25
 element-copy-out-t25 c = search rules
 
-sub-t26 : tie.Need-overflow-sub-t26
+sub-t26 : tie.Need-overflow_sub-t26
 sub-t26 c =
     let f = c.before.before.before.before in
     let s = f.before in
     simp (read_back (p-fits s (place f) (omega arith)), read_back (p-fits s (place f + 1) (omega arith))) (apart_fits s (place f) (omega arith))
 
-mul-t27 : tie.Need-overflow-mul-t27
+mul-t27 : tie.Need-overflow_mul-t27
 mul-t27 c = search rules
 
 element-copy-out-t30 : tie.Need-element-copy-out-t30
 element-copy-out-t30 c = search rules
 
-mul-t31 : tie.Need-overflow-mul-t31
+mul-t31 : tie.Need-overflow_mul-t31
 mul-t31 c = search rules
 
 element-copy-out-t34 : tie.Need-element-copy-out-t34
 element-copy-out-t34 c = search rules
 
-add-t35 : tie.Need-overflow-add-t35
+add-t35 : tie.Need-overflow_add-t35
 add-t35 c =
     let f = c.before.before.before.before.before.before in
     let s = f.before in
@@ -131,20 +131,20 @@ returns-2 c =
     simp (read_back (p-fits s j (omega arith)), read_back (p-fits s (j + 1) (omega arith)), read_back (apart_fits s j (omega arith)))
     (sym (face_inner (n s) s.args.top s.args.bottom s.args.excess.now s.args.resistance.now s.requires.0.0 s.args.k j (placed f (omega arith)) (omega arith)))
 
-mul-outer-face : tie.Need-overflow-mul-outer-face
-mul-outer-face c = omega (arith, last c.before.before (omega arith) (omega arith))
+mul-outer_face : tie.Need-overflow_mul-outer_face
+mul-outer_face c = omega (arith, last c.before.before (omega arith) (omega arith))
 
-element-copy-out-outer-face-3 : tie.Need-element-copy-out-outer-face-3
-element-copy-out-outer-face-3 c = omega (arith, last c.before.before (omega arith) (omega arith))
+element-copy-out-outer_face-3 : tie.Need-element-copy-out-outer_face-3
+element-copy-out-outer_face-3 c = omega (arith, last c.before.before (omega arith) (omega arith))
 
-mul-outer-face-2 : tie.Need-overflow-mul-outer-face-2
-mul-outer-face-2 c = omega (arith, last c.before.before.before (omega arith) (omega arith))
+mul-outer_face-2 : tie.Need-overflow_mul-outer_face-2
+mul-outer_face-2 c = omega (arith, last c.before.before.before (omega arith) (omega arith))
 
-element-copy-out-outer-face-4 : tie.Need-element-copy-out-outer-face-4
-element-copy-out-outer-face-4 c = omega (arith, last c.before.before.before (omega arith) (omega arith))
+element-copy-out-outer_face-4 : tie.Need-element-copy-out-outer_face-4
+element-copy-out-outer_face-4 c = omega (arith, last c.before.before.before (omega arith) (omega arith))
 
-outer-face-requires-2 : tie.Need-outer-face-requires-2
-outer-face-requires-2 c κs =
+outer_face-requires-2 : tie.Need-outer_face-requires-2
+outer_face-requires-2 c κs =
     let f = c.before.before.before.before in
     let s = f.before in
     let h : place f < n s = omega (arith, last f (omega arith) (omega arith)) in
@@ -155,17 +155,17 @@ returns-3 c =
     let f = c.before.before.before.before.before in
     let s = f.before in
     let is = last f (omega arith) (omega arith) in
-    (simp (read_back (p-fits s (place f) (omega arith))) at c.outer-face2.ensures) ∙
+    (simp (read_back (p-fits s (place f) (omega arith))) at c.outer_face2.ensures) ∙
     sym (face_top (n s) s.args.top s.args.bottom s.args.excess.now s.args.resistance.now s.requires.0.0 s.args.k (place f) (placed f (omega arith)) is)
 
-pub face-at-spec : {M : Type 1} → statement M
-face-at-spec =
+pub face_at_spec : {M : Type 1} → statement M
+face_at_spec =
     tie.close
     (tie.spec
-    face-number-requires
-    element-copy-out-outer-face
-    element-copy-out-outer-face-2
-    outer-face-requires
+    face_number-requires
+    element-copy-out-outer_face
+    element-copy-out-outer_face-2
+    outer_face-requires
     returns
     add-next
     mul-t18
@@ -179,9 +179,9 @@ face-at-spec =
     element-copy-out-t34
     add-t35
     returns-2
-    mul-outer-face
-    element-copy-out-outer-face-3
-    mul-outer-face-2
-    element-copy-out-outer-face-4
-    outer-face-requires-2
+    mul-outer_face
+    element-copy-out-outer_face-3
+    mul-outer_face-2
+    element-copy-out-outer_face-4
+    outer_face-requires-2
     returns-3)

@@ -35,15 +35,15 @@ module _ (c : tie.After-face) where
   abbrev held : ℤ
   held = c.face.given.0.0.0
 
-  held-within : Within held most_head_pressure
+  held_within : Within held most_head_pressure
   unfolding Holds
-  held-within = rw c.face.given.1 at s.pre.0
+  held_within = rw c.face.given.1 at s.pre.0
 
   held_fits : SFits w64 held
-  held_fits = within_fits tt held-within
+  held_fits = within_fits tt held_within
 
   difference : Within (s.args.excess -ℤ held) most_difference
-  difference = within_le (within-sub s.pre.1 held-within) (lit≤ tt)
+  difference = within_le (within-sub s.pre.1 held_within) (lit≤ tt)
 
   difference-fits : SFits w64 (s.args.excess -ℤ held)
   difference-fits = within_fits tt difference
@@ -54,7 +54,7 @@ enum_told c = search rules
 enum-known-face : tie.Need-enum-known-face
 enum-known-face c = search rules
 
-sub-t6 : tie.Need-overflow-sub-t6
+sub-t6 : tie.Need-overflow_sub-t6
 sub-t6 c = let f = c.before.before.before in simp (read_back (s f).ranges.excess, read_back (held_fits f)) (difference-fits f)
 
 returns : tie.Need-returns
@@ -66,5 +66,5 @@ returns-2 c =
     let f = c.before.before.before in
     drained-as (s f).args.excess (s f).args.resistance f.face.given.1 (simp (read_back (s f).ranges.excess, read_back (held_fits f), read_back (difference-fits f)) refl)
 
-pub outer-face-spec : {M : Type 1} → statement M
-outer-face-spec = tie.close (tie.spec enum_told enum-known-face sub-t6 returns returns-2)
+pub outer_face_spec : {M : Type 1} → statement M
+outer_face_spec = tie.close (tie.spec enum_told enum-known-face sub-t6 returns returns-2)

@@ -56,15 +56,15 @@ module _ (c : tie.After-known-told2) where
   header_is : header ≡ (described job).header
   header_is = framed_header job header sound
 
-read-pairs-requires : tie.Need-read-pairs-requires
-read-pairs-requires c κs =
+read_pairs-requires : tie.Need-read_pairs-requires
+read_pairs-requires c κs =
     let t = c.before.before.before.before.before.before.before.before in (
       header_is t,
       ((rw (header_is t) (framed_kept (job t) (header t) (sound t)), rw (header_is t) (framed_length (job t) (header t) (sound t))), (s₁ t).requires.0),
     )
 
 -- what is read is the job's description
-module _ (c : tie.After-read-pairs) where
+module _ (c : tie.After-read_pairs) where
   abbrev t₂ : tie.After-known-told2
   t₂ = c.before.before.before.before.before.before.before.before.before
 
@@ -82,7 +82,7 @@ enum-known-accepted-2 c = search rules
 
 -- and what accepting it gives is what opening the job does
 module _ (c : tie.After-accept) where
-  abbrev r₃ : tie.After-read-pairs
+  abbrev r₃ : tie.After-read_pairs
   r₃ = c.before.before.before.before.before.before.before.before.before.before
 
   abbrev t₃ : tie.After-known-told2
@@ -103,8 +103,8 @@ module _ (c : tie.After-accept) where
       r₃.read_pairs.last.1.1.1.1.1.1.1.1.0 r₃.read_pairs.last.1.1.1.1.1.1.1.1.1.0
   left-pairs = framed_pairs (job t₃) (header t₃) (sound t₃) r₃.read_pairs.ensures (c.accept.ensures.1.0 ∙ ap accepted_water lent)
 
-  left-burden : c.accept.new.1.1.1.1.1.1.1.1.1.0 ≡ left_burden (job t₃) (s₁ t₃).args.burden.now
-  left-burden =
+  left_burden : c.accept.new.1.1.1.1.1.1.1.1.1.0 ≡ left_burden (job t₃) (s₁ t₃).args.burden.now
+  left_burden =
       c.accept.ensures.1.1.0 ∙ ap (λ (d : Description). accepted_burden d (s₁ t₃).args.burden.now) lent ∙
       sym (framed_burden (job t₃) (header t₃) (sound t₃) (s₁ t₃).args.burden.now)
 
@@ -112,22 +112,22 @@ returns-2 : tie.Need-returns-2
 unfolding opened_by
 returns-2 c =
     let a = c.before.before.before in
-    (answered a c.before.accepted.given.1, (left-pairs a, left-burden a))
+    (answered a c.before.accepted.given.1, (left-pairs a, left_burden a))
 
 returns-3 : tie.Need-returns-3
 unfolding opened_by
 returns-3 c =
     let a = c.before.before.before in
-    (answered a c.before.accepted2.given.1, (left-pairs a, left-burden a))
+    (answered a c.before.accepted2.given.1, (left-pairs a, left_burden a))
 
-pub open-into-spec : {M : Type 1} → statement M
-open-into-spec =
+pub open_into_spec : {M : Type 1} → statement M
+open_into_spec =
     tie.close
     (tie.spec
     frame-requires
     enum-known-framed
     enum-known-framed-2
-    read-pairs-requires
+    read_pairs-requires
     accept-requires
     enum-known-accepted
     enum-known-accepted-2

@@ -43,8 +43,8 @@ module _ (c : tie.Start) where
   abbrev r : Record
   r =
       let a = c.args in
-      record_of (soil_of a.counts a.void.now a.stress.now a.conductivity-void.now a.conductivity.now)
-      (layer_of a.frame a.progress a.solids.now a.water.now a.table-time.now a.table_load.now)
+      record_of (soil_of a.counts a.void.now a.stress.now a.conductivity_void.now a.conductivity.now)
+      (layer_of a.frame a.progress a.solids.now a.water.now a.table_time.now a.table_load.now)
 
   abbrev site : Site
   site = record_site r
@@ -68,8 +68,8 @@ module _ (c : tie.Start) where
   at : Reached r end 1 r.layer.water r.layer.progress 0
   at = begins r is c.requires.1.1.1.0 c.requires.1.0.1 not_late
 
-load-at-requires : tie.Need-load-at-requires
-load-at-requires c κs =
+load_at-requires : tie.Need-load_at-requires
+load_at-requires c κs =
     let facts = site_is (r c) (is c) in
     ((facts.header.table_kept.least, facts.header.table_kept.most), facts.table)
 
@@ -112,8 +112,8 @@ module _ (c : tie.After-loaded) where
       ap (λ (p : Pressure). held p.0 s.args.burden.now) load_is ∙
       ap (held under.layer.progress.load.0) worked.burden-is
 
-read-elements-requires : tie.Need-read-elements-requires
-read-elements-requires c κs =
+read_elements-requires : tie.Need-read_elements-requires
+read_elements-requires c κs =
     let g = c.before.before.before.before.before in
     let long = (s g).requires.1.1.1 in (
       (counted (r (s g)) (is (s g))).1,
@@ -122,21 +122,21 @@ read-elements-requires c κs =
 
 -- ---- what was read
 
-module _ (c : tie.After-read-elements) where
+module _ (c : tie.After-read_elements) where
   abbrev g : tie.After-loaded
   g = c.before.before.before.before.before.before
 
   abbrev s₁ : tie.Start
   s₁ = s g
 
-  excess-is : c.read-elements.new.1.1.1.1.1.1.1.1.1.1.1.1.0 ≡ excesses_in (under g) s₁.args.excess.now
-  excess-is = c.read-elements.ensures.0 ∙ ap (λ (h : Held). filled s₁.args.excess.now s₁.args.frame.elements (excess_at h)) (held-is g)
+  excess-is : c.read_elements.new.1.1.1.1.1.1.1.1.1.1.1.1.0 ≡ excesses_in (under g) s₁.args.excess.now
+  excess-is = c.read_elements.ensures.0 ∙ ap (λ (h : Held). filled s₁.args.excess.now s₁.args.frame.elements (excess_at h)) (held-is g)
 
-  resistance-is : c.read-elements.new.1.1.1.1.1.1.1.1.1.1.1.1.1.0 ≡ resistances_in (under g) s₁.args.resistance.now
-  resistance-is = c.read-elements.ensures.1.0
+  resistance-is : c.read_elements.new.1.1.1.1.1.1.1.1.1.1.1.1.1.0 ≡ resistances_in (under g) s₁.args.resistance.now
+  resistance-is = c.read_elements.ensures.1.0
 
-next-time-requires : tie.Need-next-time-requires
-next-time-requires c κs = let s = s₁ c in (site_is (r s) (is s)).header.table_kept.most
+next_time-requires : tie.Need-next_time-requires
+next_time-requires c κs = let s = s₁ c in (site_is (r s) (is s)).header.table_kept.most
 
 lesser-requires : tie.Need-lesser-requires
 lesser-requires c κs = search rules
@@ -149,21 +149,21 @@ module _ (c : tie.After-lesser) where
 
   nearer-is : c.lesser.result ≡ min (end opened) (next_time (site opened).load_table (clock opened) (end opened))
   unfolding record_site
-  nearer-is = c.lesser.ensures ∙ ap (min (end opened)) (c.before.next-time.ensures (r opened).layer.table_load)
+  nearer-is = c.lesser.ensures ∙ ap (min (end opened)) (c.before.next_time.ensures (r opened).layer.table_load)
 
   not-before : clock opened ≤ c.lesser.result
   not-before =
       let early = not_late opened in
       omega (arith, nearer-is, next_reaches (site opened).load_table (clock opened) (end opened) early)
 
-sub-lesser : tie.Need-overflow-sub-lesser
+sub-lesser : tie.Need-overflow_sub-lesser
 sub-lesser c = not-before c
 
 lesser-requires-2 : tie.Need-lesser-requires-2
 lesser-requires-2 c κs = search rules
 
 module _ (c : tie.After-lesser2) where
-  abbrev f₁ : tie.After-read-elements
+  abbrev f₁ : tie.After-read_elements
   f₁ = c.before.before.before
 
   abbrev s₂ : tie.Start
@@ -184,8 +184,8 @@ module _ (c : tie.After-lesser2) where
   unfolding longest_step record_site record_state
   longest-is = ap (λ (z : ℕ). greatest z (λ t. not (too_long (record_site (under (g f₁))) (record_state (under (g f₁))) t))) reach-is
 
-advance-longest-requires : tie.Need-advance-longest-requires
-advance-longest-requires c κs =
+advance_longest-requires : tie.Need-advance_longest-requires
+advance_longest-requires c κs =
     let l = c.before.before.before.before in
     let f = f₁ l in
     let u = under (g f) in
@@ -208,26 +208,26 @@ advance-longest-requires c κs =
 
 -- ---- what the longest step gave
 
-module _ (c : tie.After-advance-longest) where
+module _ (c : tie.After-advance_longest) where
   abbrev reached : tie.After-lesser2
   reached = c.before.before.before.before.before
 
-  abbrev f : tie.After-read-elements
+  abbrev f : tie.After-read_elements
   f = f₁ reached
 
   abbrev start : tie.Start
   start = s₁ f
 
   abbrev water : List ℕ
-  water = c.advance-longest.new.1.1.1.1.1.1.1.1.1.1.1.0
+  water = c.advance_longest.new.1.1.1.1.1.1.1.1.1.1.1.0
 
   same :
-      (c.advance-longest.result ≡ gives (under (g f)) (passing.found (r start) (end start))) ×
+      (c.advance_longest.result ≡ gives (under (g f)) (passing.found (r start) (end start))) ×
       (water ≡ (passing.passed (r start) (end start)).layer.water) ×
-      (c.advance-longest.new.1.1.1.1.1.1.1.1.1.1.0 ≡ flows_turned (under (g f)) (longest (r start) (end start)) start.args.above.now)
+      (c.advance_longest.new.1.1.1.1.1.1.1.1.1.1.0 ≡ flows_turned (under (g f)) (longest (r start) (end start)) start.args.above.now)
   same =
       let law = turn_is (under (g f)) (is-under (g f)) start.args.excess.now start.args.resistance.now (excess-is f) (resistance-is f) (worked (g f)) (most reached) start.args.above.now (longest-is reached) in
-      (c.advance-longest.ensures.0 ∙ law.0, c.advance-longest.ensures.1.0 ∙ law.1, c.advance-longest.ensures.1.1 ∙ law.2)
+      (c.advance_longest.ensures.0 ∙ law.0, c.advance_longest.ensures.1.0 ∙ law.1, c.advance_longest.ensures.1.1 ∙ law.2)
 
 enum-known-stop : tie.Need-enum-known-stop
 enum-known-stop c = search rules
@@ -238,14 +238,14 @@ enum-known-t c = search rules
 returns : tie.Need-returns
 returns c =
     let a = c.before.before.before in
-    let read = (f a).read-elements.ensures.1.1 in (
+    let read = (f a).read_elements.ensures.1.1 in (
       law.gives_stop (at (start a)) (under-is (g (f a))) c.before.stop.given.0.0 (sym c.before.stop.given.1 ∙ (same a).0),
       ((same a).1, ((same a).2, (excess-is (f a), (resistance-is (f a), (read.0, read.1))))),
     )
 
 -- a step
 module _ (c : tie.After-known-told2) where
-  abbrev a : tie.After-advance-longest
+  abbrev a : tie.After-advance_longest
   a = c.before.before.before
 
   abbrev t : ℕ
@@ -282,7 +282,7 @@ returns-2 : tie.Need-returns-2
 returns-2 c =
     let k = c.before in
     let v = a k in
-    let read = (f v).read-elements.ensures.1.1 in
+    let read = (f v).read_elements.ensures.1.1 in
     let after : c.later.result ≡ later (progress k) (t k) (first k) (last k) = simp (first_back k, last-back k) at c.later.ensures in (
       ap Goes after ∙ law.gives_step (at (start v)) (t k) (first k) (last k) (told k) (under-is (g (f v))),
       ((same v).1, ((same v).2, (excess-is (f v), (resistance-is (f v), (read.0, read.1))))),
@@ -292,14 +292,14 @@ pub pass_spec : {M : Type 1} → statement M
 pass_spec =
     tie.close
     (tie.spec
-    load-at-requires
+    load_at-requires
     loaded-requires
-    read-elements-requires
-    next-time-requires
+    read_elements-requires
+    next_time-requires
     lesser-requires
     sub-lesser
     lesser-requires-2
-    advance-longest-requires
+    advance_longest-requires
     enum-known-stop
     enum-known-t
     later-requires

@@ -26,13 +26,13 @@ use Rattle.passes.proofs.passes.Statement.{statement}
 use Rattle.passes.proofs.passes.Tie as tie
 
 abbrev invariant-loop : tie.invariant-loop
-invariant-loop counts frame void stress conductivity-void conductivity solids water₀ table-time table_load burden sensitivity low high steepness end budget stress-segment₀ conductivity-segment₀ excess₀ resistance₀ above₀ now₀ steps₀ water stress-segment conductivity-segment excess resistance above (λ x. x.now) steps =
-    let r = record_of (soil_of counts void stress conductivity-void conductivity) (layer_of frame now₀ solids water₀ table-time table_load) in
+invariant-loop counts frame void stress conductivity_void conductivity solids water₀ table_time table_load burden sensitivity low high steepness end budget stress_segment₀ conductivity_segment₀ excess₀ resistance₀ above₀ now₀ steps₀ water stress_segment conductivity_segment excess resistance above (λ x. x.now) steps =
+    let r = record_of (soil_of counts void stress conductivity_void conductivity) (layer_of frame now₀ solids water₀ table_time table_load) in
     Reached r end budget water (λ x. x.now) steps × (length excess ≡ 128) × (length resistance ≡ 128) × (length above ≡ 128) ×
-    (length stress-segment ≡ 128) × (length conductivity-segment ≡ 128)
+    (length stress_segment ≡ 128) × (length conductivity_segment ≡ 128)
 
 abbrev decreases-loop : tie.decreases-loop
-decreases-loop counts frame void stress conductivity-void conductivity solids water₀ table-time table_load burden sensitivity low high steepness end budget stress-segment₀ conductivity-segment₀ excess₀ resistance₀ above₀ now₀ steps₀ water stress-segment conductivity-segment excess resistance above now steps = budget - steps
+decreases-loop counts frame void stress conductivity_void conductivity solids water₀ table_time table_load burden sensitivity low high steepness end budget stress_segment₀ conductivity_segment₀ excess₀ resistance₀ above₀ now₀ steps₀ water stress_segment conductivity_segment excess resistance above now steps = budget - steps
 
 -- ---- the layer
 
@@ -40,8 +40,8 @@ module _ (c : tie.Start invariant-loop decreases-loop) where
   abbrev r : Record
   r =
       let a = c.args in
-      record_of (soil_of a.counts a.void.now a.stress.now a.conductivity-void.now a.conductivity.now)
-      (layer_of a.frame a.progress a.solids.now a.water.now a.table-time.now a.table_load.now)
+      record_of (soil_of a.counts a.void.now a.stress.now a.conductivity_void.now a.conductivity.now)
+      (layer_of a.frame a.progress a.solids.now a.water.now a.table_time.now a.table_load.now)
 
   abbrev end : ℕ
   end = c.args.end
@@ -149,11 +149,11 @@ module _ (c : tie.After-pass invariant-loop decreases-loop) where
   abbrev above : List ℤ
   above = c.pass.new.1.1.1.1.1.1.1.1.1.1.1.1.1.1.1.1.1.1.1.1.1.0
 
-  abbrev stress-segment : List ℕ
-  stress-segment = c.pass.new.1.1.1.1.1.1.1.1.1.1.1.1.1.1.1.1.1.0
+  abbrev stress_segment : List ℕ
+  stress_segment = c.pass.new.1.1.1.1.1.1.1.1.1.1.1.1.1.1.1.1.1.0
 
-  abbrev conductivity-segment : List ℕ
-  conductivity-segment = c.pass.new.1.1.1.1.1.1.1.1.1.1.1.1.1.1.1.1.1.1.0
+  abbrev conductivity_segment : List ℕ
+  conductivity_segment = c.pass.new.1.1.1.1.1.1.1.1.1.1.1.1.1.1.1.1.1.1.0
 
   long-excess : length excess ≡ 128
   long-excess = as_long h.loop.excess {array' = excess} elements (excess_at (held_in (under_table here))) c.pass.ensures.1.1.1.0 few h.loop.inv.1
@@ -166,11 +166,11 @@ module _ (c : tie.After-pass invariant-loop decreases-loop) where
       ap (λ (l : List ℤ). length l) {x = above} {y = flows_turned (under_table here) (longest here (end s)) h.loop.above} c.pass.ensures.1.1.0 ∙
       flows_long (under_table here) (longest here (end s)) h.loop.above few h.loop.inv.3
 
-  long-stress : length stress-segment ≡ 128
-  long-stress = segments_length {before = h.loop.stress-segment} {after = stress-segment} c.pass.ensures.1.1.1.1.1.0 h.loop.inv.4 few
+  long-stress : length stress_segment ≡ 128
+  long-stress = segments_length {before = h.loop.stress_segment} {after = stress_segment} c.pass.ensures.1.1.1.1.1.0 h.loop.inv.4 few
 
-  long-conductivity : length conductivity-segment ≡ 128
-  long-conductivity = segments_length {before = h.loop.conductivity-segment} {after = conductivity-segment} c.pass.ensures.1.1.1.1.1.1 h.loop.inv.5 few
+  long-conductivity : length conductivity_segment ≡ 128
+  long-conductivity = segments_length {before = h.loop.conductivity_segment} {after = conductivity_segment} c.pass.ensures.1.1.1.1.1.1 h.loop.inv.5 few
 
 enum-known-stop : tie.Need-enum-known-stop invariant-loop decreases-loop
 enum-known-stop c = search rules
@@ -211,7 +211,7 @@ module _ (c : tie.After-known-told2 invariant-loop decreases-loop) where
   goes_on : Reached (r (s a)) (end (s a)) (budget (s a)) (water a) after (steps (h a) + 1)
   goes_on = law.pass_goes (at (h a)) (before-end (e a)) (some_left (e a)) (moved a) after (sym c.before.after.given.1 ∙ a.pass.ensures.0)
 
-add-steps : tie.Need-overflow-add-steps invariant-loop decreases-loop
+add-steps : tie.Need-overflow_add-steps invariant-loop decreases-loop
 add-steps c = let f = a c in omega (arith, some_left (e f), (s f).pre.1.0.2)
 
 loop-less : tie.Need-loop-smaller invariant-loop decreases-loop
@@ -231,8 +231,8 @@ returns-3 c =
     law.at_end (at h) (eq-eqb (clock h) (end (start h)) c.before.if1.false) ∙
     ap (ending (r (start h)) h.loop.water) (sym c.ended3.ensures)
 
-pub passes-spec : {M : Type 1} → statement M
-passes-spec =
+pub passes_spec : {M : Type 1} → statement M
+passes_spec =
     tie.close
     (tie.spec
     invariant-loop

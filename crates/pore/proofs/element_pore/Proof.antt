@@ -39,8 +39,8 @@ module _ (b : tie.After-burdens) where
   unfolding zeros
   burden-is = b.burdens.ensures
 
-pore-over-requires : tie.Need-pore-over-requires
-pore-over-requires c κs =
+pore_over-requires : tie.Need-pore_over-requires
+pore_over-requires c κs =
     let b = c.before.before.before.before.before.before in
     let s = start b in
     let level = (site_is (r s) (is s)).sizes.top_level_kept in
@@ -53,7 +53,7 @@ returns : tie.Need-returns
 returns c =
     let b = c.before.before.before.before.before.before.before in
     let s = start b in
-    (c.pore-over.ensures.0 ∙ rw (burden-is b) (ap pressure (sym (pore_by_arrays (r s) (is s) s.args.index s.pre.1))), c.pore-over.ensures.1)
+    (c.pore_over.ensures.0 ∙ rw (burden-is b) (ap pressure (sym (pore_by_arrays (r s) (is s) s.args.index s.pre.1))), c.pore_over.ensures.1)
 
-pub element-pore-spec : {M : Type 1} → statement M
-element-pore-spec = tie.close (tie.spec burdens-requires pore-over-requires returns)
+pub element_pore_spec : {M : Type 1} → statement M
+element_pore_spec = tie.close (tie.spec burdens-requires pore_over-requires returns)

@@ -20,13 +20,13 @@ loop-holds : tie.Need-loop-init invariant-loop decreases-loop
 unfolding first_places tabulate height_of sum
 loop-holds c = (omega arith, refl, omega arith)
 
-mul-height : tie.Need-overflow-mul-height invariant-loop decreases-loop
+mul-height : tie.Need-overflow_mul-height invariant-loop decreases-loop
 mul-height c = omega arith
 
 element-copy-out-height : tie.Need-element-copy-out-height invariant-loop decreases-loop
 element-copy-out-height c = omega arith
 
-mul-height-2 : tie.Need-overflow-mul-height-2 invariant-loop decreases-loop
+mul-height-2 : tie.Need-overflow_mul-height-2 invariant-loop decreases-loop
 mul-height-2 c = omega arith
 
 element-copy-out-height-2 : tie.Need-element-copy-out-height-2 invariant-loop decreases-loop
@@ -43,13 +43,13 @@ module _ (c : tie.In-loop invariant-loop decreases-loop) where
   heights : (get_or s.args.solids.now j 0 ≤ solids_limits.most) × (get_or s.args.water.now j 0 ≤ water_limits.most)
   heights = s.pre.1 j (omega arith)
 
-add-height : tie.Need-overflow-add-height invariant-loop decreases-loop
+add-height : tie.Need-overflow_add-height invariant-loop decreases-loop
 add-height c = omega (arith, heights c.before.before)
 
-add-height-2 : tie.Need-overflow-add-height-2 invariant-loop decreases-loop
+add-height-2 : tie.Need-overflow_add-height-2 invariant-loop decreases-loop
 add-height-2 c = omega (arith, heights c.before.before, c.before.before.before.loop.invariant.2)
 
-add-j : tie.Need-overflow-add-j invariant-loop decreases-loop
+add-j : tie.Need-overflow_add-j invariant-loop decreases-loop
 add-j c = omega arith
 
 loop-less : tie.Need-loop-smaller invariant-loop decreases-loop
@@ -67,8 +67,8 @@ returns c =
     let most = c.before.before.requires.0 in
     (rw (← end) c.before.loop.invariant.1, omega (arith, c.before.loop.invariant.2))
 
-pub height-below-spec : {M : Type 1} → statement M
-height-below-spec =
+pub height_below_spec : {M : Type 1} → statement M
+height_below_spec =
     tie.close
     (tie.spec
     invariant-loop

@@ -3,8 +3,8 @@ use Rattle.record_flows.proofs.LayerFaces.{entry_most}
 use Rattle.record_flows.proofs.divide.Statement.{statement}
 use Rattle.record_flows.proofs.divide.Tie as tie
 
-divide-into-requires : tie.Need-divide-into-requires
-divide-into-requires c κs =
+divide_into-requires : tie.Need-divide_into-requires
+divide_into-requires c κs =
     let s = c.before.before in
     let (room, long) = s.requires in
     (λ is. rw room (entry_most s.args.r is), λ is. rw long (entry_most s.args.r is))
@@ -12,5 +12,5 @@ divide-into-requires c κs =
 returns : tie.Need-returns
 returns c = search rules
 
-pub divide-spec : {M : Type 1} → statement M
-divide-spec = tie.close (tie.spec divide-into-requires returns)
+pub divide_spec : {M : Type 1} → statement M
+divide_spec = tie.close (tie.spec divide_into-requires returns)

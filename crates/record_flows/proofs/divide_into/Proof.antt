@@ -19,14 +19,14 @@ module _ (c : tie.After-enum-told) where
   taken : Taken s.args.r s.args.t
   taken = done_taken s.args.r s.args.t done
 
-take-step-requires : tie.Need-take-step-requires
-take-step-requires c κs = search rules
+take_step-requires : tie.Need-take_step-requires
+take_step-requires c κs = search rules
 
 enum_told : tie.Need-enum-told
 enum_told c = search rules
 
-divide-layer-requires : tie.Need-divide-layer-requires
-divide-layer-requires c κs = let e = c.before.before in ((taken e).is, (short _ _ (taken e), ((s e).requires.0 (taken e).is, (s e).requires.1 (taken e).is)))
+divide_layer-requires : tie.Need-divide_layer-requires
+divide_layer-requires c κs = let e = c.before.before in ((taken e).is, (short _ _ (taken e), ((s e).requires.0 (taken e).is, (s e).requires.1 (taken e).is)))
 
 enum-told-2 : tie.Need-enum-told-2
 enum-told-2 c = search rules
@@ -44,7 +44,7 @@ returns : tie.Need-returns
 returns c =
     let d = c.before.before in
     let e = d.before.before.before in
-    let told = d.divide-layer.ensures in
+    let told = d.divide_layer.ensures in
     accepted (s e).args.r (s e).args.t (s e).args.flows.now (s e).args.remainders.now (done e) (taken e) told.0 told.1.0 told.1.1
 
 returns-2 : tie.Need-returns-2
@@ -58,13 +58,13 @@ returns-3 c =
     refused s.args.r s.args.t s.args.flows.now s.args.remainders.now _
     (sym (ap (λ (a : Answered). a.answer) c.before.before.before.take_step.ensures.0) ∙ c.before.answer.given.1)
 
-pub divide-into-spec : {M : Type 1} → statement M
-divide-into-spec =
+pub divide_into_spec : {M : Type 1} → statement M
+divide_into_spec =
     tie.close
     (tie.spec
-    take-step-requires
+    take_step-requires
     enum_told
-    divide-layer-requires
+    divide_layer-requires
     enum-told-2
     enum-known-answer
     same_length

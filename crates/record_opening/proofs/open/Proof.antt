@@ -34,9 +34,9 @@ accepted job e counted held =
 numbered : {a b : Answered} → a ≡ b → answer_numbers a.answer ≡ answer_numbers b.answer
 numbered e = ap (λ (a : Answered). answer_numbers a.answer) e
 
-open-into-requires : tie.Need-open-into-requires
+open_into-requires : tie.Need-open_into-requires
 unfolding zeros
-open-into-requires c κs = (
+open_into-requires c κs = (
   record {
     solids_blank = refl;
     water_blank = refl;
@@ -59,15 +59,15 @@ refused-requires c κs = search rules
 enum-known-opened-2 : tie.Need-enum-known-opened-2
 enum-known-opened-2 c = search rules
 
-curve-counts-requires : tie.Need-curve-counts-requires
-curve-counts-requires c κs = search rules
+curve_counts-requires : tie.Need-curve_counts-requires
+curve_counts-requires c κs = search rules
 
 returns : tie.Need-returns
 unfolding opening_numbers
 returns c =
     let k = c.before.before in
     let o = k.before.before in
-    let refused = c.refused.ensures ∙ sym (opened_blank _ _ (sym o.open-into.ensures.0 ∙ k.opened.given.1)) in
+    let refused = c.refused.ensures ∙ sym (opened_blank _ _ (sym o.open_into.ensures.0 ∙ k.opened.given.1)) in
     (refused, numbered refused)
 
 done-requires : tie.Need-done-requires
@@ -79,19 +79,19 @@ returns-2 c =
     let n = c.before in
     let t = n.before.before in
     let o = t.before.before in
-    let opened = sym o.open-into.ensures.0 ∙ t.opened2.given.1 in
-    let opens = c.done.ensures ∙ accepted _ opened n.curve-counts.ensures o.open-into.ensures.1.0 in
+    let opened = sym o.open_into.ensures.0 ∙ t.opened2.given.1 in
+    let opens = c.done.ensures ∙ accepted _ opened n.curve_counts.ensures o.open_into.ensures.1.0 in
     (opens, numbered opens)
 
 pub open_spec : {M : Type 1} → statement M
 open_spec =
     tie.close
     (tie.spec
-    open-into-requires
+    open_into-requires
     enum-known-opened
     refused-requires
     enum-known-opened-2
-    curve-counts-requires
+    curve_counts-requires
     done-requires
     returns
     returns-2)

@@ -10,5 +10,5 @@ returns : tie.Need-returns
 unfolding refused_opening
 returns c = rw c.blank.ensures
 
-pub refused-spec : {M : Type 1} → statement M
-refused-spec = tie.close (tie.spec blank-requires returns)
+pub refused_spec : {M : Type 1} → statement M
+refused_spec = tie.close (tie.spec blank-requires returns)

@@ -32,33 +32,33 @@ module _ (c : tie.Else1) where
   between : (1 ≤ s.args.element) × (s.args.element ≤ s.args.r.layer.frame.elements)
   between = within_parts (from 1 to s.args.r.layer.frame.elements) s.args.element (passed inside)
 
-sub-element-pore : tie.Need-overflow-sub-element-pore
-sub-element-pore c = (between c).0
+sub-element_pore : tie.Need-overflow_sub-element_pore
+sub-element_pore c = (between c).0
 
-element-pore-requires : tie.Need-element-pore-requires
-element-pore-requires c κs = let (least, most) = between c in (c.before.before.requires, omega arith)
+element_pore-requires : tie.Need-element_pore-requires
+element_pore-requires c κs = let (least, most) = between c in (c.before.before.requires, omega arith)
 
 convert-requires : tie.Need-convert-requires
 convert-requires c κs = search rules
 
 less-requires : tie.Need-less-requires
-less-requires c κs = (c.before.element-pore.ensures.1, rw c.convert.ensures (reading_within (s c.before.before).args.reading))
+less-requires c κs = (c.before.element_pore.ensures.1, rw c.convert.ensures (reading_within (s c.before.before).args.reading))
 
 returns-2 : tie.Need-returns-2
 returns-2 c =
     let p = c.before.before in
     let f = p.before in
     let a = (s f).args in
-    c.less.ensures ∙ rw (p.element-pore.ensures.0, c.before.convert.ensures) (sym (taken a.r a.element a.reading (s f).requires (inside f)))
+    c.less.ensures ∙ rw (p.element_pore.ensures.0, c.before.convert.ensures) (sym (taken a.r a.element a.reading (s f).requires (inside f)))
 
-pub compare-layer-spec : {M : Type 1} → statement M
-compare-layer-spec =
+pub compare_layer_spec : {M : Type 1} → statement M
+compare_layer_spec =
     tie.close
     (tie.spec
     within-requires
     returns
-    sub-element-pore
-    element-pore-requires
+    sub-element_pore
+    element_pore-requires
     convert-requires
     less-requires
     returns-2)

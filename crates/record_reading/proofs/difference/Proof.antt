@@ -16,11 +16,11 @@ module _ (s : tie.Start) where
   less-fits : SFits w64 (s.args.pressure.0 -ℤ s.args.pore.0)
   less-fits = within_fits tt (within-sub s.pre.0 s.pre.1)
 
-sub-t3 : tie.Need-overflow-sub-t3
+sub-t3 : tie.Need-overflow_sub-t3
 sub-t3 c = let s = c.before.before.before.before in simp (read_back (pressure-fits s), read_back (pore-fits s)) (less-fits s)
 
 returns : tie.Need-returns
 returns c = let s = c.before.before.before.before in simp (read_back (pressure-fits s), read_back (pore-fits s), read_back (less-fits s))
 
-pub difference-spec : {M : Type 1} → statement M
-difference-spec = tie.close (tie.spec sub-t3 returns)
+pub difference_spec : {M : Type 1} → statement M
+difference_spec = tie.close (tie.spec sub-t3 returns)

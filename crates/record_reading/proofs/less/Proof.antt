@@ -30,7 +30,7 @@ returns-2 c = rw c.enum_told.given.1
 returns-3 : tie.Need-returns-3
 returns-3 c = rw c.enum-told2.given.1
 
-pub less-spec : {M : Type 1} → statement M
-less-spec =
+pub less_spec : {M : Type 1} → statement M
+less_spec =
     tie.close
     (tie.spec enum-known-converted difference-requires enum_told enum-told-2 returns returns-2 returns-3)

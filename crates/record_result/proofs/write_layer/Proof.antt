@@ -20,9 +20,9 @@ burdens-requires c κs =
     let s = c.before.before.before.before.before.before in
     ((counted (r s) (is s)).1, (weighted (r s) (is s), ((λ j h. (solid (r s) (is s) j h).1), refl)))
 
-write-lent-requires : tie.Need-write-lent-requires
+write_lent-requires : tie.Need-write_lent-requires
 unfolding zeros
-write-lent-requires c κs =
+write_lent-requires c κs =
     let b = c.before.before.before.before.before.before.before.before.before.before.before.before.before in
     let s = b.before.before.before.before.before.before.before in
     (is s, (b.burdens.ensures, s.requires.1))
@@ -33,5 +33,5 @@ same_length c = search rules
 returns : tie.Need-returns
 returns c = search rules
 
-pub write-layer-spec : {M : Type 1} → statement M
-write-layer-spec = tie.close (tie.spec burdens-requires write-lent-requires same_length returns)
+pub write_layer_spec : {M : Type 1} → statement M
+write_layer_spec = tie.close (tie.spec burdens-requires write_lent-requires same_length returns)

@@ -11,8 +11,8 @@ use borrow.Author.Rules.{rules}
 use Rattle.record_result.proofs.write_result.Statement.{statement}
 use Rattle.record_result.proofs.write_result.Tie as tie
 
-is-layer-requires : tie.Need-is-layer-requires
-is-layer-requires c κs = search rules
+is_layer-requires : tie.Need-is_layer-requires
+is_layer-requires c κs = search rules
 
 refused-requires : tie.Need-refused-requires
 refused-requires c κs = search rules
@@ -29,8 +29,8 @@ returns c =
 standing : (c : tie.Else1) → is_layer c.before.before.before.args.r ≡ true
 standing c = sym c.before.is_a_layer.ensures ∙ not-false _ c.if1.false
 
-result-size-requires : tie.Need-result-size-requires
-result-size-requires c κs = (counted c.before.before.before.args.r (standing c)).1
+result_size-requires : tie.Need-result_size-requires
+result_size-requires c κs = (counted c.before.before.before.args.r (standing c)).1
 
 refused-requires-2 : tie.Need-refused-requires-2
 refused-requires-2 c κs = search rules
@@ -40,7 +40,7 @@ unfolding refused_result
 returns-2 c =
     let f = c.before.before.before in
     let s = f.before.before.before in
-    let short = rw c.before.before.result-size.ensures at c.before.if2.true in
+    let short = rw c.before.before.result_size.ensures at c.before.if2.true in
     let e = short_buffer s.args.r s.args.stop s.args.steps s.args.out.now (standing f) short in
     (c.refused2.ensures ∙ number_is e, buffer-is e)
 
@@ -48,10 +48,10 @@ returns-2 c =
 room : (c : tie.Else2) →
     let s = c.before.before.before.before.before in
     result_size s.args.r.layer.frame.elements ≤ length s.args.out.now
-room c = rw c.before.result-size.ensures at c.if2.false
+room c = rw c.before.result_size.ensures at c.if2.false
 
-write-layer-requires : tie.Need-write-layer-requires
-write-layer-requires c κs = (standing c.before.before.before, room c.before)
+write_layer-requires : tie.Need-write_layer-requires
+write_layer-requires c κs = (standing c.before.before.before, room c.before)
 
 same_length : tie.Need-same-length
 same_length c = search rules
@@ -62,18 +62,18 @@ returns-3 c =
     let f = w.before.before in
     let s = f.before.before.before.before.before in
     let e = result-written s.args.r s.args.stop s.args.steps s.args.out.now (standing f.before.before) (room f) in
-    (number_is e, w.write-layer.ensures ∙ buffer-is e)
+    (number_is e, w.write_layer.ensures ∙ buffer-is e)
 
-pub write-result-spec : {M : Type 1} → statement M
-write-result-spec =
+pub write_result_spec : {M : Type 1} → statement M
+write_result_spec =
     tie.close
     (tie.spec
-    is-layer-requires
+    is_layer-requires
     refused-requires
     returns
-    result-size-requires
+    result_size-requires
     refused-requires-2
     returns-2
-    write-layer-requires
+    write_layer-requires
     same_length
     returns-3)

@@ -10,8 +10,8 @@ open-requires c κs = search rules
 enum_told : tie.Need-enum-told
 enum_told c = search rules
 
-replay-calls-requires : tie.Need-replay-calls-requires
-replay-calls-requires c κs = search rules
+replay_calls-requires : tie.Need-replay_calls-requires
+replay_calls-requires c κs = search rules
 
 enum-told-2 : tie.Need-enum-told-2
 enum-told-2 c = search rules
@@ -26,7 +26,7 @@ returns : tie.Need-returns
 returns c =
     let o = c.before.before.before.before.before.before.before in
     let s = o.before.before.before.before in
-    let made = c.before.before.replay-calls in
+    let made = c.before.before.replay_calls in
     let done = c.before.before.before.before.enum_told.given.1 in
     let (given, written) = replay_done s.args.job.now s.args.calls.now s.args.answers.now o.open.result o.open.ensures.0 done made.result _ made.ensures.0 made.ensures.1 in (
       given,
@@ -52,13 +52,13 @@ returns-3 c =
     let (given, written) = replay_not_done s.args.job.now s.args.calls.now s.args.answers.now o.open.result o.open.ensures.0 not in
     (given, (written, λ done. absurd (not done)))
 
-pub replay-spec : {M : Type 1} → statement M
-replay-spec =
+pub replay_spec : {M : Type 1} → statement M
+replay_spec =
     tie.close
     (tie.spec
     open-requires
     enum_told
-    replay-calls-requires
+    replay_calls-requires
     enum-told-2
     enum-told-3
     same_length

@@ -16,20 +16,20 @@ invariant-loop calls answers₀ count after₀ i₀ answers after i =
 abbrev decreases-loop : tie.decreases-loop
 decreases-loop calls answers₀ count after₀ i₀ answers after i = count - i
 
-call-count-requires : tie.Need-call-count-requires invariant-loop decreases-loop
-call-count-requires c κs = search rules
+call_count-requires : tie.Need-call_count-requires invariant-loop decreases-loop
+call_count-requires c κs = search rules
 
 loop-holds : tie.Need-loop-init invariant-loop decreases-loop
 loop-holds c = (omega arith, c.call_count.ensures, refl, replays_none _ _ _)
 
-replay-call-requires : tie.Need-replay-call-requires invariant-loop decreases-loop
-replay-call-requires c κs =
+replay_call-requires : tie.Need-replay_call-requires invariant-loop decreases-loop
+replay_call-requires c κs =
     let s = c.before.before.before.before.before.before in
     let l = c.before.before.loop in
     let (held, room) = counted_words (length s.args.calls.now) (length s.args.answers.now) l.i (omega arith) in
     (omega (arith, held), omega (arith, room, l.invariant.2))
 
-add-i : tie.Need-overflow-add-i invariant-loop decreases-loop
+add-i : tie.Need-overflow_add-i invariant-loop decreases-loop
 add-i c = omega arith
 
 loop-less : tie.Need-loop-smaller invariant-loop decreases-loop
@@ -39,7 +39,7 @@ loop-again : tie.Need-loop-preserved invariant-loop decreases-loop
 loop-again c =
     let s = c.before.before.before.before.before.before.before.before.before in
     let l = c.before.before.before.before.before.loop in
-    let made = c.before.before.replay-call in
+    let made = c.before.before.replay_call in
     let (held, room) = counted_words (length s.args.calls.now) (length s.args.answers.now) l.i (omega arith) in (
       omega arith,
       l.invariant.1,
@@ -57,15 +57,15 @@ returns c =
     let all : l.i ≡ c.before.before.call_count.result = omega arith in
     replays_all s.args.layer s.args.calls.now s.args.answers.now l.i l.after l.answers l.invariant.3 (all ∙ l.invariant.1)
 
-pub replay-calls-spec : {M : Type 1} → statement M
-replay-calls-spec =
+pub replay_calls_spec : {M : Type 1} → statement M
+replay_calls_spec =
     tie.close
     (tie.spec
     invariant-loop
     decreases-loop
-    call-count-requires
+    call_count-requires
     loop-holds
-    replay-call-requires
+    replay_call-requires
     add-i
     loop-less
     loop-again

@@ -25,8 +25,8 @@ module _ (s : tie.Start) where
   abbrev r : Record
   r =
       record_of
-      (soil_of s.args.counts s.args.void.now s.args.stress.now s.args.conductivity-void.now s.args.conductivity.now)
-      (layer_of s.args.frame s.args.ended.progress s.args.solids.now s.args.water.now s.args.table-time.now
+      (soil_of s.args.counts s.args.void.now s.args.stress.now s.args.conductivity_void.now s.args.conductivity.now)
+      (layer_of s.args.frame s.args.ended.progress s.args.solids.now s.args.water.now s.args.table_time.now
       s.args.table_load.now)
 
   abbrev is : is_layer r ≡ true
@@ -37,25 +37,25 @@ module _ (s : tie.Start) where
   unfolding result_size
   room = s.pre.1.1
 
-total-water-requires : tie.Need-total-water-requires
-total-water-requires c κs =
+total_water-requires : tie.Need-total_water-requires
+total_water-requires c κs =
     let s = c.before.before.before.before in ((counted (r s) (is s)).1, (site_is (r s) (is s)).sizes.water-most)
 
 settlement-requires : tie.Need-settlement-requires
 settlement-requires c κs =
-    let s = c.before.before.before.before.before in ((state-is (r s) (is s)).starting_most, c.total-water.ensures.1)
+    let s = c.before.before.before.before.before in ((state-is (r s) (is s)).starting_most, c.total_water.ensures.1)
 
-write-head-requires : tie.Need-write-head-requires
-write-head-requires c κs =
+write_head-requires : tie.Need-write_head-requires
+write_head-requires c κs =
     let s = c.before.before.before.before.before.before.before in
     ((omega (arith, room s), (counted (r s) (is s)).1), (state-is (r s) (is s)).load_between.0)
 
-write-elements-requires : tie.Need-write-elements-requires
-write-elements-requires c κs =
+write_elements-requires : tie.Need-write_elements-requires
+write_elements-requires c κs =
     let h = c.before.before.before in
     let s = h.before.before.before.before.before.before.before.before in
     let level = (site_is (r s) (is s)).sizes.top_level_kept in
-    let long : length h.write-head.new.0 ≡ length s.args.out.now = ap length h.write-head.ensures ∙ simp length-sets in (
+    let long : length h.write_head.new.0 ≡ length s.args.out.now = ap length h.write_head.ensures ∙ simp length-sets in (
       ((counted (r s) (is s)).1, rw long (room s)),
       (
         inside_signed level_limits s.args.frame.top_level.0 level.0 level.1,
@@ -74,14 +74,14 @@ gone-is : (c : tie.After-settlement) → let s = c.before.before.before.before.b
     c.settlement.result ≡ gone (r s)
 gone-is c =
     let s = c.before.before.before.before.before.before in
-    c.settlement.ensures ∙ ap (λ (left : ℕ). pos s.args.frame.starting_water -ℤ pos left) c.before.total-water.ensures.0
+    c.settlement.ensures ∙ ap (λ (left : ℕ). pos s.args.frame.starting_water -ℤ pos left) c.before.total_water.ensures.0
 
-head-stored : (c : tie.After-write-head) → let s = c.before.before.before.before.before.before.before.before in
-    c.write-head.new.0 ≡ sets s.args.out.now 0 (headed (r s) s.args.ended.stop s.args.ended.steps)
+head-stored : (c : tie.After-write_head) → let s = c.before.before.before.before.before.before.before.before in
+    c.write_head.new.0 ≡ sets s.args.out.now 0 (headed (r s) s.args.ended.stop s.args.ended.steps)
 head-stored c =
     let g = c.before.before in
     let fits : SFits w64 g.settlement.result = record { sfits = g.settlement.type-inv } in
-    rw (← gone-is g) (simp (read_back fits) at c.write-head.ensures)
+    rw (← gone-is g) (simp (read_back fits) at c.write_head.ensures)
 
 returns : tie.Need-returns
 returns c =
@@ -89,15 +89,15 @@ returns c =
     let h = w.before.before.before.before in
     let s = h.before.before.before.before.before.before.before.before in
     result-stored (r s) s.args.ended.stop s.args.ended.steps s.args.burden.now s.args.out.now _ _ s.requires.1.0
-    s.requires.1.1 (head-stored h) w.write-elements.ensures
+    s.requires.1.1 (head-stored h) w.write_elements.ensures
 
-pub write-lent-spec : {M : Type 1} → statement M
-write-lent-spec =
+pub write_lent_spec : {M : Type 1} → statement M
+write_lent_spec =
     tie.close
     (tie.spec
-    total-water-requires
+    total_water-requires
     settlement-requires
-    write-head-requires
-    write-elements-requires
+    write_head-requires
+    write_elements-requires
     same_length
     returns)

@@ -46,75 +46,75 @@ module _ (s : tie.Start) where
   excess_in : Within excess most_excess
   excess_in = excess-within _ _ _ s.pre.1.1.0 _ _ _ _ on
 
-effective-stress-requires : tie.Need-effective-stress-requires
-effective-stress-requires c κs =
+effective_stress-requires : tie.Need-effective_stress-requires
+effective_stress-requires c κs =
     let s = c in (((on s).solids_positive, most s), (s.requires.1.0, s.requires.1.1.0))
 
-value-of-requires : tie.Need-value-of-requires
-value-of-requires c κs = search rules
+value_of-requires : tie.Need-value_of-requires
+value_of-requires c κs = search rules
 
 -- the effective stress
-module _ (c : tie.After-value-of) where
+module _ (c : tie.After-value_of) where
   abbrev at-stress : tie.Start
   at-stress = c.before.before
 
   stress-is : c.value_of_lem.result ≡ value_of (effective_stress (skeleton_of (curve at-stress)) at-stress.args.solids at-stress.args.water)
-  stress-is = c.value_of_lem.ensures ∙ ap value_of c.before.effective-stress.ensures.0.0
+  stress-is = c.value_of_lem.ensures ∙ ap value_of c.before.effective_stress.ensures.0.0
 
   effective-most : c.value_of_lem.result ≤ stress_limits.most
   effective-most = rw stress-is (stress_most _ _ _ at-stress.pre.1.1.0 _ _ _ _ (on at-stress))
 
-excess-pressure-requires : tie.Need-excess-pressure-requires
-excess-pressure-requires c κs =
+excess_pressure-requires : tie.Need-excess_pressure-requires
+excess_pressure-requires c κs =
     let s = c.before.before in (load-within s, ((on s).burden-most, effective-most c))
 
 -- the excess pressure
-excess-is : (c : tie.After-excess-pressure) → c.excess-pressure.result.0 ≡ excess c.before.before.before
+excess-is : (c : tie.After-excess_pressure) → c.excess_pressure.result.0 ≡ excess c.before.before.before
 unfolding excess_pressure
 excess-is c =
     let s = c.before.before.before in
-    ap (λ (p : Pressure). p.0) c.excess-pressure.ensures ∙
+    ap (λ (p : Pressure). p.0) c.excess_pressure.ensures ∙
     ap (λ (σ : ℕ). excess_under s.args.load.0 s.args.burden σ) (stress-is c.before)
 
-node-height-requires : tie.Need-node-height-requires
-node-height-requires c κs =
+node_height-requires : tie.Need-node_height-requires
+node_height-requires c κs =
     let s = c.before.before.before in (s.requires.0.0, ((on s).solids-most, most s))
 
-pore-pressure-requires : tie.Need-pore-pressure-requires
-pore-pressure-requires c κs =
+pore_pressure-requires : tie.Need-pore_pressure-requires
+pore_pressure-requires c κs =
     let s = c.before.before.before.before in
-    (rw (excess-is c.before) (excess_in s), (s.requires.0.1, rw c.node-height.ensures (node-most s)))
+    (rw (excess-is c.before) (excess_in s), (s.requires.0.1, rw c.node_height.ensures (node-most s)))
 
 -- the pore pressure
-module _ (c : tie.After-pore-pressure) where
+module _ (c : tie.After-pore_pressure) where
   abbrev s : tie.Start
   s = c.before.before.before.before.before
 
-  pore-over : c.pore-pressure.result.0 ≡ pore_over (excess s) (level s) (node s)
-  pore-over =
-      ap (λ (p : Pressure). p.0) c.pore-pressure.ensures ∙
-      ap (λ (p : ℤ). pore_over p (level s) c.before.node-height.result) (excess-is c.before.before) ∙
-      ap (pore_over (excess s) (level s)) c.before.node-height.ensures
+  pore_over : c.pore_pressure.result.0 ≡ pore_over (excess s) (level s) (node s)
+  pore_over =
+      ap (λ (p : Pressure). p.0) c.pore_pressure.ensures ∙
+      ap (λ (p : ℤ). pore_over p (level s) c.before.node_height.result) (excess-is c.before.before) ∙
+      ap (pore_over (excess s) (level s)) c.before.node_height.ensures
 
-  pore-is : c.pore-pressure.result.0 ≡
+  pore-is : c.pore_pressure.result.0 ≡
       pore_pressure (skeleton_of (curve s)) (level s) s.args.load.0 s.args.below s.args.burden s.args.solids s.args.water
   unfolding pore_pressure
-  pore-is = pore-over
+  pore-is = pore_over
 
-  pore-in : Within c.pore-pressure.result.0 most_pore
-  pore-in = rw pore-over (pore_within (level s) (node s) s.pre.0.1 (node-most s) (excess_in s))
+  pore-in : Within c.pore_pressure.result.0 most_pore
+  pore-in = rw pore_over (pore_within (level s) (node s) s.pre.0.1 (node-most s) (excess_in s))
 
 returns : tie.Need-returns
 returns c =
     let v = c.before.before.before in (stress-is v, (ap pressure (pore-is c), (effective-most v, pore-in c)))
 
-pub element-stresses-spec : {M : Type 1} → statement M
-element-stresses-spec =
+pub element_stresses_spec : {M : Type 1} → statement M
+element_stresses_spec =
     tie.close
     (tie.spec
-    effective-stress-requires
-    value-of-requires
-    excess-pressure-requires
-    node-height-requires
-    pore-pressure-requires
+    effective_stress-requires
+    value_of-requires
+    excess_pressure-requires
+    node_height-requires
+    pore_pressure-requires
     returns)

@@ -29,29 +29,29 @@ loop-holds : tie.Need-loop-init invariant-loop decreases-loop
 unfolding first_places tabulate elements_bytes height_of sum
 loop-holds c = (omega arith, refl, refl, omega arith)
 
-mul-write-element : tie.Need-overflow-mul-write-element invariant-loop decreases-loop
-mul-write-element c = omega arith
+mul-write_element : tie.Need-overflow_mul-write_element invariant-loop decreases-loop
+mul-write_element c = omega arith
 
-add-write-element : tie.Need-overflow-add-write-element invariant-loop decreases-loop
-add-write-element c = omega arith
+add-write_element : tie.Need-overflow_add-write_element invariant-loop decreases-loop
+add-write_element c = omega arith
 
-mul-write-element-2 : tie.Need-overflow-mul-write-element-2 invariant-loop decreases-loop
-mul-write-element-2 c = omega arith
+mul-write_element-2 : tie.Need-overflow_mul-write_element-2 invariant-loop decreases-loop
+mul-write_element-2 c = omega arith
 
-element-copy-out-write-element : tie.Need-element-copy-out-write-element invariant-loop decreases-loop
-element-copy-out-write-element c = omega arith
+element-copy-out-write_element : tie.Need-element-copy-out-write_element invariant-loop decreases-loop
+element-copy-out-write_element c = omega arith
 
-mul-write-element-3 : tie.Need-overflow-mul-write-element-3 invariant-loop decreases-loop
-mul-write-element-3 c = omega arith
+mul-write_element-3 : tie.Need-overflow_mul-write_element-3 invariant-loop decreases-loop
+mul-write_element-3 c = omega arith
 
-element-copy-out-write-element-2 : tie.Need-element-copy-out-write-element-2 invariant-loop decreases-loop
-element-copy-out-write-element-2 c = omega arith
+element-copy-out-write_element-2 : tie.Need-element-copy-out-write_element-2 invariant-loop decreases-loop
+element-copy-out-write_element-2 c = omega arith
 
-mul-write-element-4 : tie.Need-overflow-mul-write-element-4 invariant-loop decreases-loop
-mul-write-element-4 c = omega arith
+mul-write_element-4 : tie.Need-overflow_mul-write_element-4 invariant-loop decreases-loop
+mul-write_element-4 c = omega arith
 
-element-copy-out-write-element-3 : tie.Need-element-copy-out-write-element-3 invariant-loop decreases-loop
-element-copy-out-write-element-3 c = omega arith
+element-copy-out-write_element-3 : tie.Need-element-copy-out-write_element-3 invariant-loop decreases-loop
+element-copy-out-write_element-3 c = omega arith
 
 -- as much room as before the loop
 room : (c : tie.At-loop invariant-loop decreases-loop) → length c.loop.out ≡ length c.before.before.args.out.now
@@ -74,32 +74,32 @@ module _ (c : tie.In-loop invariant-loop decreases-loop) where
   below-most : c.before.loop.below ≤ most_height
   below-most = let h = s.pre.0.0 in omega arith
 
-write-element-requires : tie.Need-write-element-requires invariant-loop decreases-loop
-write-element-requires c κs =
+write_element-requires : tie.Need-write_element-requires invariant-loop decreases-loop
+write_element-requires c κs =
     let l = c.before.before.before.before in
     let many = (s l).requires.0.1 in
     (omega (arith, room l.before), ((below-most l, (s l).requires.1.0), ((s l).requires.1.1.0, ((s l).requires.1.1.1.0, on l))))
 
-mul-below : tie.Need-overflow-mul-below invariant-loop decreases-loop
+mul-below : tie.Need-overflow_mul-below invariant-loop decreases-loop
 mul-below c = omega arith
 
 element-copy-out-below : tie.Need-element-copy-out-below invariant-loop decreases-loop
 element-copy-out-below c = omega arith
 
-mul-below-2 : tie.Need-overflow-mul-below-2 invariant-loop decreases-loop
+mul-below-2 : tie.Need-overflow_mul-below-2 invariant-loop decreases-loop
 mul-below-2 c = omega arith
 
 element-copy-out-below-2 : tie.Need-element-copy-out-below-2 invariant-loop decreases-loop
 element-copy-out-below-2 c = omega arith
 
-add-below : tie.Need-overflow-add-below invariant-loop decreases-loop
+add-below : tie.Need-overflow_add-below invariant-loop decreases-loop
 add-below c = omega (arith, heights c.before.before.before.before.before.before.before.before.before)
 
-add-below-2 : tie.Need-overflow-add-below-2 invariant-loop decreases-loop
+add-below-2 : tie.Need-overflow_add-below-2 invariant-loop decreases-loop
 add-below-2 c =
     let l = c.before.before.before.before.before.before.before.before.before in omega (arith, heights l, below-most l)
 
-add-j : tie.Need-overflow-add-j invariant-loop decreases-loop
+add-j : tie.Need-overflow_add-j invariant-loop decreases-loop
 add-j c = omega arith
 
 loop-less : tie.Need-loop-smaller invariant-loop decreases-loop
@@ -110,7 +110,7 @@ loop-again c =
     let l = c.before.before.before.before.before.before.before.before.before in
     let w = c.before.before.before.before in (
       omega arith,
-      elements-stored _ _ _ _ _ _ _ _ _ _ _ l.before.loop.invariant.1 l.before.loop.invariant.2 w.write-element.ensures,
+      elements-stored _ _ _ _ _ _ _ _ _ _ _ l.before.loop.invariant.1 l.before.loop.invariant.2 w.write_element.ensures,
       height_more _ _ _ _ l.before.loop.invariant.2,
       omega (arith, heights l, l.before.loop.invariant.3),
     )
@@ -122,22 +122,22 @@ returns : tie.Need-returns invariant-loop decreases-loop
 returns c =
     elements_done _ _ _ _ _ _ _ _ _ _ c.before.loop.invariant.1 (omega arith)
 
-pub write-elements-spec : {M : Type 1} → statement M
-write-elements-spec =
+pub write_elements_spec : {M : Type 1} → statement M
+write_elements_spec =
     tie.close
     (tie.spec
     invariant-loop
     decreases-loop
     loop-holds
-    mul-write-element
-    add-write-element
-    mul-write-element-2
-    element-copy-out-write-element
-    mul-write-element-3
-    element-copy-out-write-element-2
-    mul-write-element-4
-    element-copy-out-write-element-3
-    write-element-requires
+    mul-write_element
+    add-write_element
+    mul-write_element-2
+    element-copy-out-write_element
+    mul-write_element-3
+    element-copy-out-write_element-2
+    mul-write_element-4
+    element-copy-out-write_element-3
+    write_element-requires
     mul-below
     element-copy-out-below
     mul-below-2

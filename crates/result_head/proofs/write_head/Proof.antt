@@ -18,56 +18,56 @@ use Rattle.result_head.proofs.write_head.Statement.{statement}
 use Rattle.result_head.proofs.write_head.Tie as tie
 
 -- what is known after each field is stored, back to the bytes before the clock, and to the start
-abbrev from-clock : tie.After-put-word → tie.After-write-start
+abbrev from-clock : tie.After-put_word → tie.After-write_start
 from-clock c = c.before.before.before.before
 
-abbrev from-steps : tie.After-put-word2 → tie.After-write-start
+abbrev from-steps : tie.After-put_word2 → tie.After-write_start
 from-steps c = from-clock c.before.before.before.before
 
-abbrev from-load : tie.After-put-word3 → tie.After-write-start
+abbrev from-load : tie.After-put_word3 → tie.After-write_start
 from-load c = from-steps c.before.before.before.before.before.before
 
-abbrev from-top : tie.After-put-signed → tie.After-write-start
+abbrev from-top : tie.After-put_signed → tie.After-write_start
 from-top c = from-load c.before.before.before.before.before
 
-abbrev from_bottom : tie.After-put-signed2 → tie.After-write-start
+abbrev from_bottom : tie.After-put_signed2 → tie.After-write_start
 from_bottom c = from-top c.before.before.before.before.before
 
-abbrev from-settlement : tie.After-put-signed3 → tie.After-write-start
+abbrev from-settlement : tie.After-put_signed3 → tie.After-write_start
 from-settlement c = from_bottom c.before.before.before.before
 
-abbrev start : tie.After-write-start → tie.Start
+abbrev start : tie.After-write_start → tie.Start
 start c = c.before.before.before.before.before.before.before.before
 
-write-start-requires : tie.Need-write-start-requires
-write-start-requires c κs = search rules
+write_start-requires : tie.Need-write_start-requires
+write_start-requires c κs = search rules
 
-put-word-requires : tie.Need-put-word-requires
-put-word-requires c κs = search rules
+put_word-requires : tie.Need-put_word-requires
+put_word-requires c κs = search rules
 
-put-word-requires-2 : tie.Need-put-word-requires-2
-put-word-requires-2 c κs = search rules
+put_word-requires-2 : tie.Need-put_word-requires-2
+put_word-requires-2 c κs = search rules
 
 -- the load fits, and is not negative
 load_fits : (c : tie.After-struct-told) → SFits w64 (start (from-steps c.before.before.before.before.before)).args.ended.progress.load.0
 load_fits c = record { sfits = c.struct_told.given.0.1 }
 
-cast-put-word : tie.Need-overflow-cast-put-word
-cast-put-word c =
+cast-put_word : tie.Need-overflow_cast-put_word
+cast-put_word c =
     let s = start (from-steps c.before.before.before.before.before) in
     simp (read_back (load_fits c)) (cast_fits s.args.ended.progress.load.0 s.pre.1 (load_fits c))
 
-put-word-requires-3 : tie.Need-put-word-requires-3
-put-word-requires-3 c κs = search rules
+put_word-requires-3 : tie.Need-put_word-requires-3
+put_word-requires-3 c κs = search rules
 
-put-signed-requires : tie.Need-put-signed-requires
-put-signed-requires c κs = search rules
+put_signed-requires : tie.Need-put_signed-requires
+put_signed-requires c κs = search rules
 
-put-signed-requires-2 : tie.Need-put-signed-requires-2
-put-signed-requires-2 c κs = search rules
+put_signed-requires-2 : tie.Need-put_signed-requires-2
+put_signed-requires-2 c κs = search rules
 
-put-signed-requires-3 : tie.Need-put-signed-requires-3
-put-signed-requires-3 c κs = omega (arith, (start (from_bottom c.before.before.before)).requires.0)
+put_signed-requires-3 : tie.Need-put_signed-requires-3
+put_signed-requires-3 c κs = omega (arith, (start (from_bottom c.before.before.before)).requires.0)
 
 same_length : tie.Need-same-length
 same_length c = search rules
@@ -106,64 +106,64 @@ module _ (s : tie.Start) where
   load_up : nat_abs progress.load.0 ≡ up progress.load.0
   load_up = ap up (cast_value progress.load.0 s.pre.1)
 
-after-clock : (c : tie.After-put-word) → c.put_word.new.0 ≡ written (start (from-clock c)) (clocked (start (from-clock c)))
+after-clock : (c : tie.After-put_word) → c.put_word.new.0 ≡ written (start (from-clock c)) (clocked (start (from-clock c)))
 unfolding bytes
 after-clock c =
     let s = start (from-clock c) in
-    sets_then s.args.out.now 0 (before_clock (ended s).stop s.args.elements) (word (progress s).clock.0) (from-clock c).write-start.ensures refl
+    sets_then s.args.out.now 0 (before_clock (ended s).stop s.args.elements) (word (progress s).clock.0) (from-clock c).write_start.ensures refl
     c.put_word.ensures
 
-after-steps : (c : tie.After-put-word2) → c.put-word2.new.0 ≡ written (start (from-steps c)) (stepped (start (from-steps c)))
+after-steps : (c : tie.After-put_word2) → c.put_word2.new.0 ≡ written (start (from-steps c)) (stepped (start (from-steps c)))
 unfolding bytes
 after-steps c =
     let s = start (from-steps c) in
     sets_then s.args.out.now 0 (clocked s) (word (ended s).steps) (after-clock c.before.before.before.before) refl
-    c.put-word2.ensures
+    c.put_word2.ensures
 
-after-load : (c : tie.After-put-word3) → c.put-word3.new.0 ≡ written (start (from-load c)) (loaded (start (from-load c)))
+after-load : (c : tie.After-put_word3) → c.put_word3.new.0 ≡ written (start (from-load c)) (loaded (start (from-load c)))
 unfolding bytes
 after-load c =
     let s = start (from-load c) in
     sets_then s.args.out.now 0 (stepped s) (word (up (progress s).load.0)) (after-steps c.before.before.before.before.before.before) refl
-    (simp (read_back (load_fits c.before), load_up s) at c.put-word3.ensures)
+    (simp (read_back (load_fits c.before), load_up s) at c.put_word3.ensures)
 
-after-top : (c : tie.After-put-signed) → c.put-signed.new.0 ≡ written (start (from-top c)) (topped (start (from-top c)))
+after-top : (c : tie.After-put_signed) → c.put_signed.new.0 ≡ written (start (from-top c)) (topped (start (from-top c)))
 unfolding bytes
 after-top c =
     let s = start (from-top c) in
     let fits : SFits w64 (progress s).top_outflow.0 = record { sfits = c.before.struct-told2.given.0.1 } in
     sets_then s.args.out.now 0 (loaded s) (signed_word (progress s).top_outflow.0) (after-load c.before.before.before.before.before) refl
-    (simp (read_back fits) at c.put-signed.ensures)
+    (simp (read_back fits) at c.put_signed.ensures)
 
-after-bottom : (c : tie.After-put-signed2) → c.put-signed2.new.0 ≡ written (start (from_bottom c)) (bottomed (start (from_bottom c)))
+after-bottom : (c : tie.After-put_signed2) → c.put_signed2.new.0 ≡ written (start (from_bottom c)) (bottomed (start (from_bottom c)))
 unfolding bytes
 after-bottom c =
     let s = start (from_bottom c) in
     let fits : SFits w64 (progress s).bottom_outflow.0 = record { sfits = c.before.struct-told3.given.0.1 } in
     sets_then s.args.out.now 0 (topped s) (signed_word (progress s).bottom_outflow.0) (after-top c.before.before.before.before.before) refl
-    (simp (read_back fits) at c.put-signed2.ensures)
+    (simp (read_back fits) at c.put_signed2.ensures)
 
-after-settlement : (c : tie.After-put-signed3) → c.put-signed3.new.0 ≡ written (start (from-settlement c)) (whole (start (from-settlement c)))
+after-settlement : (c : tie.After-put_signed3) → c.put_signed3.new.0 ≡ written (start (from-settlement c)) (whole (start (from-settlement c)))
 unfolding bytes head_bytes
 after-settlement c =
     let s = start (from-settlement c) in
     sets_then s.args.out.now 0 (bottomed s) (signed_word s.args.settlement) (after-bottom c.before.before.before.before) refl
-    (simp (read_back s.fits.settlement) at c.put-signed3.ensures)
+    (simp (read_back s.fits.settlement) at c.put_signed3.ensures)
 
 returns : tie.Need-returns
 returns c = after-settlement c.before.before
 
-pub write-head-spec : {M : Type 1} → statement M
-write-head-spec =
+pub write_head_spec : {M : Type 1} → statement M
+write_head_spec =
     tie.close
     (tie.spec
-    write-start-requires
-    put-word-requires
-    put-word-requires-2
-    cast-put-word
-    put-word-requires-3
-    put-signed-requires
-    put-signed-requires-2
-    put-signed-requires-3
+    write_start-requires
+    put_word-requires
+    put_word-requires-2
+    cast-put_word
+    put_word-requires-3
+    put_signed-requires
+    put_signed-requires-2
+    put_signed-requires-3
     same_length
     returns)

@@ -21,16 +21,16 @@ slice-write-out-4 c = simp length-set (omega arith)
 slice-write-out-5 : tie.Need-slice-write-out-5
 slice-write-out-5 c = simp length-set (omega arith)
 
-stop-number-requires : tie.Need-stop-number-requires
-stop-number-requires c κs = search rules
+stop_number-requires : tie.Need-stop_number-requires
+stop_number-requires c κs = search rules
 
-cast-out : tie.Need-overflow-cast-out
-cast-out c = record { fits = omega (arith, c.stop-number.ensures, stop_fits c.before.before.args.stop) }
+cast-out : tie.Need-overflow_cast-out
+cast-out c = record { fits = omega (arith, c.stop_number.ensures, stop_fits c.before.before.args.stop) }
 
 slice-write-out-6 : tie.Need-slice-write-out-6
 slice-write-out-6 c = simp length-set (omega arith)
 
-cast-out-2 : tie.Need-overflow-cast-out-2
+cast-out-2 : tie.Need-overflow_cast-out-2
 cast-out-2 c = search rules
 
 slice-write-out-7 : tie.Need-slice-write-out-7
@@ -46,10 +46,10 @@ returns : tie.Need-returns
 unfolding bytes
 returns c =
     let s = c.before.before in
-    first_stores s.args.out.now s.args.stop _ s.args.elements c.stop-number.ensures s.requires.1
+    first_stores s.args.out.now s.args.stop _ s.args.elements c.stop_number.ensures s.requires.1
 
-pub write-start-spec : {M : Type 1} → statement M
-write-start-spec =
+pub write_start_spec : {M : Type 1} → statement M
+write_start_spec =
     tie.close
     (tie.spec
     slice-write-out
@@ -57,7 +57,7 @@ write-start-spec =
     slice-write-out-3
     slice-write-out-4
     slice-write-out-5
-    stop-number-requires
+    stop_number-requires
     cast-out
     slice-write-out-6
     cast-out-2

@@ -30,12 +30,12 @@ module _ (c : tie.After-burden2) where
   long : length start.args.t1.layer.water ≡ 128
   long = sym (length-map start.args.t1.layer.water _) ∙ start.good.0.1.1.1.0.1.1.1.1.1.0.1.0.1
 
-run-lent-requires : tie.Need-run-lent-requires
+run_lent-requires : tie.Need-run_lent-requires
 unfolding zeros
-run-lent-requires c κs = ((start c).requires.0, ((start c).requires.1, (long c, (f c).burdens.ensures)))
+run_lent-requires c κs = ((start c).requires.0, ((start c).requires.1, (long c, (f c).burdens.ensures)))
 
-with-parts-requires : tie.Need-with-parts-requires
-with-parts-requires c κs = search rules
+with_parts-requires : tie.Need-with_parts-requires
+with_parts-requires c κs = search rules
 
 returns : tie.Need-returns
 returns c =
@@ -44,10 +44,10 @@ returns c =
     let (early, late, few) = s.pre.1 in
     let r = s.args.t1 in
     let ended = l.run_lent.result in
-    ap (λ (after : Record). ran_to (record { stop = ended.stop; steps = ended.steps; after = after })) c.with-parts.ensures ∙
+    ap (λ (after : Record). ran_to (record { stop = ended.stop; steps = ended.steps; after = after })) c.with_parts.ensures ∙
     sym (run_within r s.args.end s.args.budget s.pre.0 (le-ltb s.args.end r.layer.progress.clock.0 early)
     (inside clock_limits s.args.end (omega arith) late) (inside budget_limits s.args.budget (omega arith) few) refl ∙ ap ran_to l.run_lent.ensures)
 
-pub run-layer-spec : {M : Type 1} → statement M
-run-layer-spec =
-    tie.close (tie.spec burdens-requires run-lent-requires with-parts-requires returns)
+pub run_layer_spec : {M : Type 1} → statement M
+run_layer_spec =
+    tie.close (tie.spec burdens-requires run_lent-requires with_parts-requires returns)

@@ -17,8 +17,8 @@ module _ (c : tie.Start) where
   abbrev r : Record
   r =
       let a = c.args in
-      record_of (soil_of a.counts a.void.now a.stress.now a.conductivity-void.now a.conductivity.now)
-      (layer_of a.frame a.progress a.solids.now a.water.now a.table-time.now a.table_load.now)
+      record_of (soil_of a.counts a.void.now a.stress.now a.conductivity_void.now a.conductivity.now)
+      (layer_of a.frame a.progress a.solids.now a.water.now a.table_time.now a.table_load.now)
 
   is : is_layer r ≡ true
   is = c.requires.0
@@ -69,5 +69,5 @@ passes-requires c κs =
 returns-3 : tie.Need-returns-3
 returns-3 c = search rules
 
-pub run-lent-spec : {M : Type 1} → statement M
-run-lent-spec = tie.close (tie.spec ended-requires returns ended-requires-2 returns-2 prepare-requires passes-requires returns-3)
+pub run_lent_spec : {M : Type 1} → statement M
+run_lent_spec = tie.close (tie.spec ended-requires returns ended-requires-2 returns-2 prepare-requires passes-requires returns-3)

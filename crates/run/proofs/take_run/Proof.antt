@@ -15,8 +15,8 @@ use Rattle.run.proofs.RunLaws.{run_outside}
 use Rattle.run.proofs.take_run.Statement.{statement}
 use Rattle.run.proofs.take_run.Tie as tie
 
-is-layer-requires : tie.Need-is-layer-requires
-is-layer-requires c κs = search rules
+is_layer-requires : tie.Need-is_layer-requires
+is_layer-requires c κs = search rules
 
 refused-requires : tie.Need-refused-requires
 refused-requires c κs = search rules
@@ -103,8 +103,8 @@ returns-4 c =
     in_numbers (r k) (Run (end n) (budget n))
     (c.refused4.ensures ∙ sym (run_outside (r k) (end n) (budget n) (is k) (not-early n) (timed h) (sym h.within.ensures ∙ not-true _ c.before.if3.true) refl))
 
-run-layer-requires : tie.Need-run-layer-requires
-run-layer-requires c κs =
+run_layer-requires : tie.Need-run_layer-requires
+run_layer-requires c κs =
     let h = c.before in
     let n = n₁ h in (
       is (k₁ n),
@@ -117,13 +117,13 @@ run-layer-requires c κs =
 
 returns-5 : tie.Need-returns-5
 returns-5 c =
-    let n = n₁ c.before.before in in_numbers (r (k₁ n)) (Run (end n) (budget n)) c.run-layer.ensures
+    let n = n₁ c.before.before in in_numbers (r (k₁ n)) (Run (end n) (budget n)) c.run_layer.ensures
 
-pub take-run-spec : {M : Type 1} → statement M
-take-run-spec =
+pub take_run_spec : {M : Type 1} → statement M
+take_run_spec =
     tie.close
     (tie.spec
-    is-layer-requires
+    is_layer-requires
     refused-requires
     returns
     refused-requires-2
@@ -136,5 +136,5 @@ take-run-spec =
     within-requires
     refused-requires-4
     returns-4
-    run-layer-requires
+    run_layer-requires
     returns-5)

@@ -32,49 +32,49 @@ slice-aggregate-replay-2 c = sym (length-take-le _ _ (omega arith))
 replay-requires : tie.Need-replay-requires invariant-loop decreases-loop
 replay-requires c κs = search rules
 
-slice-aggregate-replay-calls : tie.Need-slice-aggregate-replay-calls invariant-loop decreases-loop
-slice-aggregate-replay-calls c = sym (length-take-le _ _ (omega arith))
+slice-aggregate-replay_calls : tie.Need-slice-aggregate-replay_calls invariant-loop decreases-loop
+slice-aggregate-replay_calls c = sym (length-take-le _ _ (omega arith))
 
 array-borrow-prefix-words-2 : tie.Need-array-borrow-prefix-words-2 invariant-loop decreases-loop
 array-borrow-prefix-words-2 c = omega arith
 
-slice-aggregate-replay-calls-2 : tie.Need-slice-aggregate-replay-calls-2 invariant-loop decreases-loop
-slice-aggregate-replay-calls-2 c = sym (length-take-le _ _ (omega arith))
+slice-aggregate-replay_calls-2 : tie.Need-slice-aggregate-replay_calls-2 invariant-loop decreases-loop
+slice-aggregate-replay_calls-2 c = sym (length-take-le _ _ (omega arith))
 
-replay-calls-requires : tie.Need-replay-calls-requires invariant-loop decreases-loop
-replay-calls-requires c κs = search rules
+replay_calls-requires : tie.Need-replay_calls-requires invariant-loop decreases-loop
+replay_calls-requires c κs = search rules
 
-sub-answer : tie.Need-overflow-sub-answer invariant-loop decreases-loop
+sub-answer : tie.Need-overflow_sub-answer invariant-loop decreases-loop
 sub-answer c = search rules
 
-mul-answer : tie.Need-overflow-mul-answer invariant-loop decreases-loop
+mul-answer : tie.Need-overflow_mul-answer invariant-loop decreases-loop
 mul-answer c = search rules
 
 shared-slice-read-answer : tie.Need-shared-slice-read-answer invariant-loop decreases-loop
 shared-slice-read-answer c = search rules
 
-sub-answer-2 : tie.Need-overflow-sub-answer-2 invariant-loop decreases-loop
+sub-answer-2 : tie.Need-overflow_sub-answer-2 invariant-loop decreases-loop
 sub-answer-2 c = search rules
 
-mul-answer-2 : tie.Need-overflow-mul-answer-2 invariant-loop decreases-loop
+mul-answer-2 : tie.Need-overflow_mul-answer-2 invariant-loop decreases-loop
 mul-answer-2 c = search rules
 
 array-read-answer : tie.Need-array-read-answer invariant-loop decreases-loop
 array-read-answer c = search rules
 
-sub-answer-3 : tie.Need-overflow-sub-answer-3 invariant-loop decreases-loop
+sub-answer-3 : tie.Need-overflow_sub-answer-3 invariant-loop decreases-loop
 sub-answer-3 c = search rules
 
-mul-answer-3 : tie.Need-overflow-mul-answer-3 invariant-loop decreases-loop
+mul-answer-3 : tie.Need-overflow_mul-answer-3 invariant-loop decreases-loop
 mul-answer-3 c = search rules
 
 array-read-answer-2 : tie.Need-array-read-answer-2 invariant-loop decreases-loop
 array-read-answer-2 c = search rules
 
-sub-answer-4 : tie.Need-overflow-sub-answer-4 invariant-loop decreases-loop
+sub-answer-4 : tie.Need-overflow_sub-answer-4 invariant-loop decreases-loop
 sub-answer-4 c = search rules
 
-mul-answer-4 : tie.Need-overflow-mul-answer-4 invariant-loop decreases-loop
+mul-answer-4 : tie.Need-overflow_mul-answer-4 invariant-loop decreases-loop
 mul-answer-4 c = search rules
 
 array-read-answer-3 : tie.Need-array-read-answer-3 invariant-loop decreases-loop
@@ -86,7 +86,7 @@ answer-requires c κs = search rules
 state-requires-2 : tie.Need-state-requires-2 invariant-loop decreases-loop
 state-requires-2 c κs = search rules
 
-add-end : tie.Need-overflow-add-end invariant-loop decreases-loop
+add-end : tie.Need-overflow_add-end invariant-loop decreases-loop
 add-end c = search rules
 
 loop-less : tie.Need-loop-smaller invariant-loop decreases-loop
@@ -108,8 +108,8 @@ site-requires c κs = search rules
 returns : tie.Need-returns invariant-loop decreases-loop
 returns c = search rules
 
-pub answer-calls-spec : {M : Type 1} → statement M
-answer-calls-spec =
+pub answer_calls_spec : {M : Type 1} → statement M
+answer_calls_spec =
     tie.close
     (tie.spec
     invariant-loop
@@ -120,10 +120,10 @@ answer-calls-spec =
     array-borrow-prefix-words
     slice-aggregate-replay-2
     replay-requires
-    slice-aggregate-replay-calls
+    slice-aggregate-replay_calls
     array-borrow-prefix-words-2
-    slice-aggregate-replay-calls-2
-    replay-calls-requires
+    slice-aggregate-replay_calls-2
+    replay_calls-requires
     sub-answer
     mul-answer
     shared-slice-read-answer

@@ -14,37 +14,37 @@ decreases-loop «record» words end₀ end = length words + 3 - end
 loop-holds : tie.Need-loop-init invariant-loop decreases-loop
 loop-holds c = (omega arith, omega arith)
 
-sub-answer-reading : tie.Need-overflow-sub-answer-reading invariant-loop decreases-loop
-sub-answer-reading c = search rules
+sub-answer_reading : tie.Need-overflow_sub-answer_reading invariant-loop decreases-loop
+sub-answer_reading c = search rules
 
-mul-answer-reading : tie.Need-overflow-mul-answer-reading invariant-loop decreases-loop
-mul-answer-reading c = search rules
+mul-answer_reading : tie.Need-overflow_mul-answer_reading invariant-loop decreases-loop
+mul-answer_reading c = search rules
 
-shared-slice-read-answer-reading : tie.Need-shared-slice-read-answer-reading invariant-loop decreases-loop
-shared-slice-read-answer-reading c = search rules
+shared-slice-read-answer_reading : tie.Need-shared-slice-read-answer_reading invariant-loop decreases-loop
+shared-slice-read-answer_reading c = search rules
 
-sub-answer-reading-2 : tie.Need-overflow-sub-answer-reading-2 invariant-loop decreases-loop
-sub-answer-reading-2 c = search rules
+sub-answer_reading-2 : tie.Need-overflow_sub-answer_reading-2 invariant-loop decreases-loop
+sub-answer_reading-2 c = search rules
 
-mul-answer-reading-2 : tie.Need-overflow-mul-answer-reading-2 invariant-loop decreases-loop
-mul-answer-reading-2 c = search rules
+mul-answer_reading-2 : tie.Need-overflow_mul-answer_reading-2 invariant-loop decreases-loop
+mul-answer_reading-2 c = search rules
 
-shared-slice-read-answer-reading-2 : tie.Need-shared-slice-read-answer-reading-2 invariant-loop decreases-loop
-shared-slice-read-answer-reading-2 c = search rules
+shared-slice-read-answer_reading-2 : tie.Need-shared-slice-read-answer_reading-2 invariant-loop decreases-loop
+shared-slice-read-answer_reading-2 c = search rules
 
-sub-answer-reading-3 : tie.Need-overflow-sub-answer-reading-3 invariant-loop decreases-loop
-sub-answer-reading-3 c = search rules
+sub-answer_reading-3 : tie.Need-overflow_sub-answer_reading-3 invariant-loop decreases-loop
+sub-answer_reading-3 c = search rules
 
-mul-answer-reading-3 : tie.Need-overflow-mul-answer-reading-3 invariant-loop decreases-loop
-mul-answer-reading-3 c = search rules
+mul-answer_reading-3 : tie.Need-overflow_mul-answer_reading-3 invariant-loop decreases-loop
+mul-answer_reading-3 c = search rules
 
-shared-slice-read-answer-reading-3 : tie.Need-shared-slice-read-answer-reading-3 invariant-loop decreases-loop
-shared-slice-read-answer-reading-3 c = search rules
+shared-slice-read-answer_reading-3 : tie.Need-shared-slice-read-answer_reading-3 invariant-loop decreases-loop
+shared-slice-read-answer_reading-3 c = search rules
 
-answer-reading-requires : tie.Need-answer-reading-requires invariant-loop decreases-loop
-answer-reading-requires c κs = search rules
+answer_reading-requires : tie.Need-answer_reading-requires invariant-loop decreases-loop
+answer_reading-requires c κs = search rules
 
-add-end : tie.Need-overflow-add-end invariant-loop decreases-loop
+add-end : tie.Need-overflow_add-end invariant-loop decreases-loop
 add-end c = omega arith
 
 loop-less : tie.Need-loop-smaller invariant-loop decreases-loop
@@ -56,23 +56,23 @@ loop-again c = (omega arith, omega arith)
 returns : tie.Need-returns invariant-loop decreases-loop
 returns c = search rules
 
-pub answer-readings-spec : {M : Type 1} → statement M
-answer-readings-spec =
+pub answer_readings_spec : {M : Type 1} → statement M
+answer_readings_spec =
     tie.close
     (tie.spec
     invariant-loop
     decreases-loop
     loop-holds
-    sub-answer-reading
-    mul-answer-reading
-    shared-slice-read-answer-reading
-    sub-answer-reading-2
-    mul-answer-reading-2
-    shared-slice-read-answer-reading-2
-    sub-answer-reading-3
-    mul-answer-reading-3
-    shared-slice-read-answer-reading-3
-    answer-reading-requires
+    sub-answer_reading
+    mul-answer_reading
+    shared-slice-read-answer_reading
+    sub-answer_reading-2
+    mul-answer_reading-2
+    shared-slice-read-answer_reading-2
+    sub-answer_reading-3
+    mul-answer_reading-3
+    shared-slice-read-answer_reading-3
+    answer_reading-requires
     add-end
     loop-less
     loop-again

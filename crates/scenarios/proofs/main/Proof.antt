@@ -9,16 +9,16 @@ invariant-loop n i₀ i = Unit {0}
 abbrev decreases-loop : tie.decreases-loop
 decreases-loop n i₀ i = n - i
 
-arg-count-requires : tie.Need-arg-count-requires invariant-loop decreases-loop
-arg-count-requires c κs = search rules
+arg_count-requires : tie.Need-arg_count-requires invariant-loop decreases-loop
+arg_count-requires c κs = search rules
 
 loop-holds : tie.Need-loop-init invariant-loop decreases-loop
 loop-holds c = search rules
 
-answer-file-requires : tie.Need-answer-file-requires invariant-loop decreases-loop
-answer-file-requires c κs = search rules
+answer_file-requires : tie.Need-answer_file-requires invariant-loop decreases-loop
+answer_file-requires c κs = search rules
 
-add-i : tie.Need-overflow-add-i invariant-loop decreases-loop
+add-i : tie.Need-overflow_add-i invariant-loop decreases-loop
 add-i c = search rules
 
 loop-less : tie.Need-loop-smaller invariant-loop decreases-loop
@@ -36,9 +36,9 @@ main_spec =
     (tie.spec
     invariant-loop
     decreases-loop
-    arg-count-requires
+    arg_count-requires
     loop-holds
-    answer-file-requires
+    answer_file-requires
     add-i
     loop-less
     loop-again

@@ -7,11 +7,11 @@ use Rattle.scenarios.proofs.Fronts.{front, front_most}
 use Rattle.scenarios.proofs.next_block.Statement.{statement}
 use Rattle.scenarios.proofs.next_block.Tie as tie
 
-slice-aggregate-read-full : tie.Need-slice-aggregate-read-full
-slice-aggregate-read-full c = search rules
+slice-aggregate-read_full : tie.Need-slice-aggregate-read_full
+slice-aggregate-read_full c = search rules
 
-read-full-requires : tie.Need-read-full-requires
-read-full-requires c κs = search rules
+read_full-requires : tie.Need-read_full-requires
+read_full-requires c κs = search rules
 
 slice-aggregate-field : tie.Need-slice-aggregate-field
 slice-aggregate-field c = search rules
@@ -37,33 +37,33 @@ returns c = search rules
 array-borrow-prefix-body : tie.Need-array-borrow-prefix-body
 array-borrow-prefix-body c = search rules
 
-slice-aggregate-read-full-2 : tie.Need-slice-aggregate-read-full-2
-slice-aggregate-read-full-2 c = sym (length-take-le _ _ (omega arith))
+slice-aggregate-read_full-2 : tie.Need-slice-aggregate-read_full-2
+slice-aggregate-read_full-2 c = sym (length-take-le _ _ (omega arith))
 
-read-full-requires-2 : tie.Need-read-full-requires-2
-read-full-requires-2 c κs = search rules
+read_full-requires-2 : tie.Need-read_full-requires-2
+read_full-requires-2 c κs = search rules
 
 array-share-prefix-body : tie.Need-array-share-prefix-body
-array-share-prefix-body c = front _ c.before.read-full2.new.1.0 _ (omega (arith, c.before.read-full2.ensures.0))
+array-share-prefix-body c = front _ c.before.read_full2.new.1.0 _ (omega (arith, c.before.read_full2.ensures.0))
 
-slice-aggregate-answer-block : tie.Need-slice-aggregate-answer-block
-slice-aggregate-answer-block c = sym (length-take-le _ _ (front _ c.before.before.read-full2.new.1.0 _ (omega (arith, c.before.before.read-full2.ensures.0))))
+slice-aggregate-answer_block : tie.Need-slice-aggregate-answer_block
+slice-aggregate-answer_block c = sym (length-take-le _ _ (front _ c.before.before.read_full2.new.1.0 _ (omega (arith, c.before.before.read_full2.ensures.0))))
 
-answer-block-requires : tie.Need-answer-block-requires
-answer-block-requires c κs =
-    let read = c.before.before.read-full2 in
+answer_block-requires : tie.Need-answer_block-requires
+answer_block-requires c κs =
+    let read = c.before.before.read_full2 in
     let length = c.before.before.before.before.before.before.before.field2.result in
     le_trans {m = length} (front_most _ length _ read.new.1.0 _ read.ensures.0 read.auto.1.0) (omega arith)
 
 returns-2 : tie.Need-returns-2
 returns-2 c = search rules
 
-pub next-block-spec : {M : Type 1} → statement M
-next-block-spec =
+pub next_block_spec : {M : Type 1} → statement M
+next_block_spec =
     tie.close
     (tie.spec
-    slice-aggregate-read-full
-    read-full-requires
+    slice-aggregate-read_full
+    read_full-requires
     slice-aggregate-field
     field-requires
     slice-aggregate-field-2
@@ -72,9 +72,9 @@ next-block-spec =
     field-requires-3
     returns
     array-borrow-prefix-body
-    slice-aggregate-read-full-2
-    read-full-requires-2
+    slice-aggregate-read_full-2
+    read_full-requires-2
     array-share-prefix-body
-    slice-aggregate-answer-block
-    answer-block-requires
+    slice-aggregate-answer_block
+    answer_block-requires
     returns-2)

@@ -37,34 +37,34 @@ module _ (l : tie.At-loop invariant-loop decreases-loop) where
 loop-holds : tie.Need-loop-init invariant-loop decreases-loop
 loop-holds c = (omega arith, all_rest _ _)
 
-mul-effective-stress : tie.Need-overflow-mul-effective-stress invariant-loop decreases-loop
-mul-effective-stress c = omega arith
+mul-effective_stress : tie.Need-overflow_mul-effective_stress invariant-loop decreases-loop
+mul-effective_stress c = omega arith
 
-element-copy-out-effective-stress : tie.Need-element-copy-out-effective-stress invariant-loop decreases-loop
-element-copy-out-effective-stress c = omega arith
+element-copy-out-effective_stress : tie.Need-element-copy-out-effective_stress invariant-loop decreases-loop
+element-copy-out-effective_stress c = omega arith
 
-mul-effective-stress-2 : tie.Need-overflow-mul-effective-stress-2 invariant-loop decreases-loop
-mul-effective-stress-2 c = omega arith
+mul-effective_stress-2 : tie.Need-overflow_mul-effective_stress-2 invariant-loop decreases-loop
+mul-effective_stress-2 c = omega arith
 
-element-copy-out-effective-stress-2 : tie.Need-element-copy-out-effective-stress-2 invariant-loop decreases-loop
-element-copy-out-effective-stress-2 c = omega arith
+element-copy-out-effective_stress-2 : tie.Need-element-copy-out-effective_stress-2 invariant-loop decreases-loop
+element-copy-out-effective_stress-2 c = omega arith
 
-effective-stress-requires : tie.Need-effective-stress-requires invariant-loop decreases-loop
-effective-stress-requires c κs =
+effective_stress-requires : tie.Need-effective_stress-requires invariant-loop decreases-loop
+effective_stress-requires c κs =
     let l = c.before.before.before in
     ((s l).requires.1.0 (j l) (omega arith), (s l).requires.1.1)
 
-is-on-requires : tie.Need-is-on-requires invariant-loop decreases-loop
-is-on-requires c κs = tt
+is_on-requires : tie.Need-is_on-requires invariant-loop decreases-loop
+is_on-requires c κs = tt
 
 returns : tie.Need-returns invariant-loop decreases-loop
 returns c =
     let l = c.before.before.before.before.before.before in
-    let e = c.before.before.effective-stress.ensures.0 in
+    let e = c.before.before.effective_stress.ensures.0 in
     index_fails (s l).args.elements (test l) (j l) l.loop.invariant.1 (omega arith)
-    (rw e.0 at (sym c.before.is-on.ensures ∙ not-true _ c.if1.true)) ∙ sym (each_on _ _ _ _)
+    (rw e.0 at (sym c.before.is_on.ensures ∙ not-true _ c.if1.true)) ∙ sym (each_on _ _ _ _)
 
-add-j : tie.Need-overflow-add-j invariant-loop decreases-loop
+add-j : tie.Need-overflow_add-j invariant-loop decreases-loop
 add-j c = omega arith
 
 loop-less : tie.Need-loop-smaller invariant-loop decreases-loop
@@ -73,28 +73,28 @@ loop-less c = omega arith
 loop-again : tie.Need-loop-preserved invariant-loop decreases-loop
 loop-again c =
     let l = c.before.before.before.before.before.before in
-    let e = c.before.before.effective-stress.ensures.0 in (
+    let e = c.before.before.effective_stress.ensures.0 in (
       omega arith,
       index_goes (s l).args.elements (test l) (j l) l.loop.invariant.1 (omega arith)
-          (rw e.0 at (sym c.before.is-on.ensures ∙ not-false _ c.if1.false)),
+          (rw e.0 at (sym c.before.is_on.ensures ∙ not-false _ c.if1.false)),
     )
 
 returns-2 : tie.Need-returns-2 invariant-loop decreases-loop
 returns-2 c = let l = c.before in index_ends (s l).args.elements (test l) (j l) l.loop.invariant.1 (omega arith) ∙ sym (each_on _ _ _ _)
 
-pub all-on-curve-spec : {M : Type 1} → statement M
-all-on-curve-spec =
+pub all_on_curve_spec : {M : Type 1} → statement M
+all_on_curve_spec =
     tie.close
     (tie.spec
     invariant-loop
     decreases-loop
     loop-holds
-    mul-effective-stress
-    element-copy-out-effective-stress
-    mul-effective-stress-2
-    element-copy-out-effective-stress-2
-    effective-stress-requires
-    is-on-requires
+    mul-effective_stress
+    element-copy-out-effective_stress
+    mul-effective_stress-2
+    element-copy-out-effective_stress-2
+    effective_stress-requires
+    is_on-requires
     returns
     add-j
     loop-less

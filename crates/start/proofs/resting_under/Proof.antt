@@ -7,13 +7,13 @@ use borrow.Author.Rules.{rules}
 use Rattle.start.proofs.resting_under.Statement.{statement}
 use Rattle.start.proofs.resting_under.Tie as tie
 
-add_most : tie.Need-overflow-add-most
+add_most : tie.Need-overflow_add-most
 add_most c = search rules
 
-sub-if1 : tie.Need-overflow-sub-if1
+sub-if1 : tie.Need-overflow_sub-if1
 sub-if1 c = search rules
 
-mul-if1 : tie.Need-overflow-mul-if1
+mul-if1 : tie.Need-overflow_mul-if1
 mul-if1 c = search rules
 
 element-copy-out-if1 : tie.Need-element-copy-out-if1
@@ -26,15 +26,15 @@ returns c =
     let last = last_stress_lem s.args.skeleton.points s.args.void.now s.args.stress.now (omega arith) in
     sym (ap resting_answer (above_last _ _ _ s.args.solids (rw last c.if1.true)))
 
-resting-water-requires : tie.Need-resting-water-requires
-resting-water-requires c κs = search rules
+resting_water-requires : tie.Need-resting_water-requires
+resting_water-requires c κs = search rules
 
 returns-2 : tie.Need-returns-2
 returns-2 c =
     let s = c.before.before.before.before in
     let last = last_stress_lem s.args.skeleton.points s.args.void.now s.args.stress.now (omega arith) in
-    c.resting-water.ensures ∙ sym (ap resting_answer (under_last _ _ _ s.args.solids (rw last c.before.if1.false)))
+    c.resting_water.ensures ∙ sym (ap resting_answer (under_last _ _ _ s.args.solids (rw last c.before.if1.false)))
 
-pub resting-under-spec : {M : Type 1} → statement M
-resting-under-spec =
-    tie.close (tie.spec add_most sub-if1 mul-if1 element-copy-out-if1 returns resting-water-requires returns-2)
+pub resting_under_spec : {M : Type 1} → statement M
+resting_under_spec =
+    tie.close (tie.spec add_most sub-if1 mul-if1 element-copy-out-if1 returns resting_water-requires returns-2)

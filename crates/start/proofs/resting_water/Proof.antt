@@ -43,58 +43,58 @@ module _ (l : tie.At-loop invariant-loop decreases-loop) where
   middle = low + (high - low) / 2
 
   high-most : high ≤ water_limits.most
-  high-most = omega (arith, l.loop.inv.1, l.before.before.before.before.before.before.highest-water.ensures.1)
+  high-most = omega (arith, l.loop.inv.1, l.before.before.before.before.before.before.highest_water.ensures.1)
 
   -- no height up to a middle that does not rest does
   below-middle : low < high → rests s middle ≡ false → (U : ℕ) → U < middle + 1 → T (rests s U) → ⊥
   below-middle h fails U k =
       none_below _ _ _ s.pre.1.0.0 s.pre.1.1 _ s.pre.0.0 _ middle
-      (omega (arith, l.loop.inv.1, l.before.before.before.before.before.before.highest-water.ensures.0)) fails U (omega arith)
+      (omega (arith, l.loop.inv.1, l.before.before.before.before.before.before.highest_water.ensures.0)) fails U (omega arith)
 
-element-copy-out-highest-water : tie.Need-element-copy-out-highest-water invariant-loop decreases-loop
-element-copy-out-highest-water c = omega arith
+element-copy-out-highest_water : tie.Need-element-copy-out-highest_water invariant-loop decreases-loop
+element-copy-out-highest_water c = omega arith
 
-highest-water-requires : tie.Need-highest-water-requires invariant-loop decreases-loop
-highest-water-requires c κs = let s = c.before in (s.requires.0, (curve s).void_high 0 (omega arith))
+highest_water-requires : tie.Need-highest_water-requires invariant-loop decreases-loop
+highest_water-requires c κs = let s = c.before in (s.requires.0, (curve s).void_high 0 (omega arith))
 
 rests-requires : tie.Need-rests-requires invariant-loop decreases-loop
-rests-requires c κs = let s = c.before.before in ((s.requires.0.0, c.highest-water.ensures.1), s.requires.1)
+rests-requires c κs = let s = c.before.before in ((s.requires.0.0, c.highest_water.ensures.1), s.requires.1)
 
 returns : tie.Need-returns invariant-loop decreases-loop
 unfolding resting_answer
 returns c =
     let s = c.before.before.before.before in
-    let high = c.before.before.highest-water in
+    let high = c.before.before.highest_water in
     let fails : rests s high.result ≡ false = sym c.before.rests.ensures ∙ not-true _ c.if1.true in
     sym (ap resting_answer (rests_nowhere _ _ _ s.requires.1.0.0 s.requires.1.1 _ s.requires.0.0 _ (rw (← high.ensures.0) fails)))
 
-sub-lowest-water : tie.Need-overflow-sub-lowest-water invariant-loop decreases-loop
-sub-lowest-water c = omega arith
+sub-lowest_water : tie.Need-overflow_sub-lowest_water invariant-loop decreases-loop
+sub-lowest_water c = omega arith
 
-mul-lowest-water : tie.Need-overflow-mul-lowest-water invariant-loop decreases-loop
-mul-lowest-water c = omega arith
+mul-lowest_water : tie.Need-overflow_mul-lowest_water invariant-loop decreases-loop
+mul-lowest_water c = omega arith
 
-element-copy-out-lowest-water : tie.Need-element-copy-out-lowest-water invariant-loop decreases-loop
-element-copy-out-lowest-water c = omega arith
+element-copy-out-lowest_water : tie.Need-element-copy-out-lowest_water invariant-loop decreases-loop
+element-copy-out-lowest_water c = omega arith
 
-lowest-water-requires : tie.Need-lowest-water-requires invariant-loop decreases-loop
-lowest-water-requires c κs = let s = c.before.before.before.before.before.before in (s.requires.0.1, (curve s).void_high _ (omega arith))
+lowest_water-requires : tie.Need-lowest_water-requires invariant-loop decreases-loop
+lowest_water-requires c κs = let s = c.before.before.before.before.before.before in (s.requires.0.1, (curve s).void_high _ (omega arith))
 
 loop-holds : tie.Need-loop-init invariant-loop decreases-loop
 loop-holds c =
     let s = c.before.before.before.before.before.before.before in
     let between = rests_between _ _ _ s.requires.1.0.0 s.requires.1.1 _ s.requires.0.0 s.args.most in
     let at-highest = passed (sym c.before.before.before.before.rests.ensures ∙ not-false _ c.before.before.before.if1.false) in (
-      rw c.lowest-water.ensures.0 (between _ at-highest).0,
+      rw c.lowest_water.ensures.0 (between _ at-highest).0,
       le_refl _,
       at-highest,
-      λ U h t. omega (arith, c.lowest-water.ensures.0, (between U t).0),
+      λ U h t. omega (arith, c.lowest_water.ensures.0, (between U t).0),
     )
 
-sub-middle : tie.Need-overflow-sub-middle invariant-loop decreases-loop
+sub-middle : tie.Need-overflow_sub-middle invariant-loop decreases-loop
 sub-middle c = omega arith
 
-add-middle : tie.Need-overflow-add-middle invariant-loop decreases-loop
+add-middle : tie.Need-overflow_add-middle invariant-loop decreases-loop
 add-middle c = omega (arith, high-most c.before)
 
 rests-requires-2 : tie.Need-rests-requires-2 invariant-loop decreases-loop
@@ -108,7 +108,7 @@ loop-again c =
     let l = c.before.before.before in
     (omega arith, omega (arith, l.loop.invariant.1), passed (sym c.before.rests2.ensures ∙ c.if2.true), l.loop.invariant.3)
 
-add_low : tie.Need-overflow-add-low invariant-loop decreases-loop
+add_low : tie.Need-overflow_add-low invariant-loop decreases-loop
 add_low c = omega (arith, high-most c.before.before.before)
 
 loop-less-2 : tie.Need-loop-smaller-2 invariant-loop decreases-loop
@@ -126,20 +126,20 @@ returns-2 c =
     sym (ap resting_answer (rests_least _ _ _ (s l).requires.1.0.0 (s l).requires.1.1 _ (s l).requires.0.0 _ (high l) (high-most l)
     l.loop.invariant.2 (λ U h. l.loop.invariant.3 U (omega arith))))
 
-pub resting-water-spec : {M : Type 1} → statement M
-resting-water-spec =
+pub resting_water_spec : {M : Type 1} → statement M
+resting_water_spec =
     tie.close
     (tie.spec
     invariant-loop
     decreases-loop
-    element-copy-out-highest-water
-    highest-water-requires
+    element-copy-out-highest_water
+    highest_water-requires
     rests-requires
     returns
-    sub-lowest-water
-    mul-lowest-water
-    element-copy-out-lowest-water
-    lowest-water-requires
+    sub-lowest_water
+    mul-lowest_water
+    element-copy-out-lowest_water
+    lowest_water-requires
     loop-holds
     sub-middle
     add-middle

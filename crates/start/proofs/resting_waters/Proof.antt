@@ -24,20 +24,20 @@ decreases-loop n load burden solids skeleton void stress water₀ j₀ water j =
 loop-holds : tie.Need-loop-init invariant-loop decreases-loop
 loop-holds c = (omega arith, sym (filled_zero _ _), λ i h. absurd (omega arith))
 
-mul-resting-under : tie.Need-overflow-mul-resting-under invariant-loop decreases-loop
-mul-resting-under c = omega arith
+mul-resting_under : tie.Need-overflow_mul-resting_under invariant-loop decreases-loop
+mul-resting_under c = omega arith
 
-element-copy-out-resting-under : tie.Need-element-copy-out-resting-under invariant-loop decreases-loop
-element-copy-out-resting-under c = omega arith
+element-copy-out-resting_under : tie.Need-element-copy-out-resting_under invariant-loop decreases-loop
+element-copy-out-resting_under c = omega arith
 
-mul-resting-under-2 : tie.Need-overflow-mul-resting-under-2 invariant-loop decreases-loop
-mul-resting-under-2 c = omega arith
+mul-resting_under-2 : tie.Need-overflow_mul-resting_under-2 invariant-loop decreases-loop
+mul-resting_under-2 c = omega arith
 
-element-copy-out-resting-under-2 : tie.Need-element-copy-out-resting-under-2 invariant-loop decreases-loop
-element-copy-out-resting-under-2 c = omega arith
+element-copy-out-resting_under-2 : tie.Need-element-copy-out-resting_under-2 invariant-loop decreases-loop
+element-copy-out-resting_under-2 c = omega arith
 
-resting-under-requires : tie.Need-resting-under-requires invariant-loop decreases-loop
-resting-under-requires c κs =
+resting_under-requires : tie.Need-resting_under-requires invariant-loop decreases-loop
+resting_under-requires c κs =
     let l = c.before.before.before in
     let s = l.before in
     let i = l.loop.j in
@@ -46,7 +46,7 @@ resting-under-requires c κs =
 enum-known-rest : tie.Need-enum-known-rest invariant-loop decreases-loop
 enum-known-rest c = search rules
 
-mul-water : tie.Need-overflow-mul-water invariant-loop decreases-loop
+mul-water : tie.Need-overflow_mul-water invariant-loop decreases-loop
 mul-water c = omega arith
 
 element-write-water : tie.Need-element-write-water invariant-loop decreases-loop
@@ -60,9 +60,9 @@ unfolding all_or_none
 returns c =
     let l = c.before.before.before.before.before.before in
     filling_stops _ _ _ _ _ _ _ l.loop.j l.loop.invariant.1 l.loop.invariant.2 (omega arith)
-    (answer_nowhere _ (sym c.enum_told.given.1 ∙ c.before.before.resting-under.ensures))
+    (answer_nowhere _ (sym c.enum_told.given.1 ∙ c.before.before.resting_under.ensures))
 
-add-j : tie.Need-overflow-add-j invariant-loop decreases-loop
+add-j : tie.Need-overflow_add-j invariant-loop decreases-loop
 add-j c = omega arith
 
 loop-less : tie.Need-loop-smaller invariant-loop decreases-loop
@@ -72,7 +72,7 @@ loop-again : tie.Need-loop-preserved invariant-loop decreases-loop
 loop-again c =
     let l = c.before.before.before.before.before.before.before in
     let s = l.before in
-    let found = answer_at _ c.before.rest.given.0.0 (sym c.before.rest.given.1 ∙ c.before.before.before.resting-under.ensures) in (
+    let found = answer_at _ c.before.rest.given.0.0 (sym c.before.rest.given.1 ∙ c.before.before.before.resting_under.ensures) in (
       omega arith,
       filled_store _ _ _ _ _ (omega (arith, s.requires.1.1.1.1.1.1)) l.loop.invariant.1 (height-is found),
       below_more _ _ l.loop.invariant.2 (found ∙ ap some (height-is found)),
@@ -82,18 +82,18 @@ returns-2 : tie.Need-returns-2 invariant-loop decreases-loop
 unfolding all_or_none
 returns-2 c = let l = c.before in filling_ends _ _ _ _ _ _ _ l.loop.j l.loop.invariant.1 l.loop.invariant.2 (omega arith)
 
-pub resting-waters-spec : {M : Type 1} → statement M
-resting-waters-spec =
+pub resting_waters_spec : {M : Type 1} → statement M
+resting_waters_spec =
     tie.close
     (tie.spec
     invariant-loop
     decreases-loop
     loop-holds
-    mul-resting-under
-    element-copy-out-resting-under
-    mul-resting-under-2
-    element-copy-out-resting-under-2
-    resting-under-requires
+    mul-resting_under
+    element-copy-out-resting_under
+    mul-resting_under-2
+    element-copy-out-resting_under-2
+    resting_under-requires
     enum-known-rest
     mul-water
     element-write-water

@@ -19,27 +19,27 @@ module _ (s : tie.Start) where
   abbrev r : Record
   r =
       let a = s.args in
-      record_of (soil_of a.counts a.void.now a.stress.now a.conductivity-void.now a.conductivity.now)
-      (layer_of a.frame a.progress a.solids.now a.water.now a.table-time.now a.table_load.now)
+      record_of (soil_of a.counts a.void.now a.stress.now a.conductivity_void.now a.conductivity.now)
+      (layer_of a.frame a.progress a.solids.now a.water.now a.table_time.now a.table_load.now)
 
   abbrev is : is_layer r ≡ true
   is = s.pre.0
 
-of-flows-requires : tie.Need-of-flows-requires
-of-flows-requires c κs =
+of_flows-requires : tie.Need-of_flows-requires
+of_flows-requires c κs =
     let s = c.before in
     (counted (r s) (is s), (((site_is (r s) (is s)).top-held, (site_is (r s) (is s)).bottom-held), stands (r s) (is s) s.args.burden.now s.requires.1))
 
 -- the least and the greatest flow
-module _ (c : tie.After-of-flows) where
+module _ (c : tie.After-of_flows) where
   abbrev s₁ : tie.Start
   s₁ = c.before.before
 
   abbrev range : Extremes
-  range = c.of-flows.result
+  range = c.of_flows.result
 
   within : Within range.least most_flow × Within range.greatest most_flow
-  within = range_within (r s₁) (is s₁) s₁.args.burden.now s₁.pre.1 c.of-flows.ensures
+  within = range_within (r s₁) (is s₁) s₁.args.burden.now s₁.pre.1 c.of_flows.ensures
 
   least-back : to_z w64 (of_z w64 range.least) ≡ range.least
   least-back = read_back (within_fits tt within.0)
@@ -50,14 +50,14 @@ module _ (c : tie.After-of-flows) where
   apart_fits : SFits w64 (range.greatest -ℤ range.least)
   apart_fits = within_fits tt (within-sub within.1 within.0)
 
-sub-result : tie.Need-overflow-sub-result
+sub-result : tie.Need-overflow_sub-result
 sub-result c = let o = c.before.before in simp (least-back o, greatest-back o) (apart_fits o)
 
 returns : tie.Need-returns
 returns c =
     let o = c.before.before in
     let s = s₁ o in
-    simp (least-back o, greatest-back o, read_back (apart_fits o)) (steady_by_range (r s) (is s) s.args.burden.now s.pre.1 o.of-flows.ensures)
+    simp (least-back o, greatest-back o, read_back (apart_fits o)) (steady_by_range (r s) (is s) s.args.burden.now s.pre.1 o.of_flows.ensures)
 
-pub is-steady-spec : {M : Type 1} → statement M
-is-steady-spec = tie.close (tie.spec of-flows-requires sub-result returns)
+pub is_steady_spec : {M : Type 1} → statement M
+is_steady_spec = tie.close (tie.spec of_flows-requires sub-result returns)

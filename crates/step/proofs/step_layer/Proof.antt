@@ -14,7 +14,7 @@ use Rattle.rules.specs.declared.record.Record.{Record}
 use Rattle.step.proofs.step_layer.Statement.{statement}
 use Rattle.step.proofs.step_layer.Tie as tie
 
-module _ (c : tie.After-step-lent-arg10) where
+module _ (c : tie.After-step_lent-arg10) where
   abbrev start : tie.Start
   start = c.before.before.before.before.before.before.before.before.before.before.before.before.before
 
@@ -24,19 +24,19 @@ module _ (c : tie.After-step-lent-arg10) where
   long : length r.layer.water ≡ 128
   long = sym (length-map r.layer.water _) ∙ start.good.0.1.1.1.0.1.1.1.1.1.0.1.0.1
 
-step-lent-requires : tie.Need-step-lent-requires
-step-lent-requires c κs = ((start c).requires.0, ((start c).requires.1, long c))
+step_lent-requires : tie.Need-step_lent-requires
+step_lent-requires c κs = ((start c).requires.0, ((start c).requires.1, long c))
 
 -- what the step answers, and the water that it leaves
-module _ (c : tie.After-step-lent) where
-  abbrev a : tie.After-step-lent-arg10
+module _ (c : tie.After-step_lent) where
+  abbrev a : tie.After-step_lent-arg10
   a = c.before
 
   abbrev water : List ℕ
-  water = c.step-lent.new.1.1.1.1.1.1.1.1.0
+  water = c.step_lent.new.1.1.1.1.1.1.1.1.0
 
-  answers : (s : Stepped) → c.step-lent.result ≡ s → step_answered (r a) s water ≡ called (r a) (Step (start a).args.t)
-  answers s e = ap (λ (x : Stepped). step_answered (r a) x water) (sym e) ∙ c.step-lent.ensures
+  answers : (s : Stepped) → c.step_lent.result ≡ s → step_answered (r a) s water ≡ called (r a) (Step (start a).args.t)
+  answers s e = ap (λ (x : Stepped). step_answered (r a) x water) (sym e) ∙ c.step_lent.ensures
 
 enum-known-stepped : tie.Need-enum-known-stepped
 enum-known-stepped c = search rules
@@ -56,8 +56,8 @@ returns c =
 enum-known-stepped-2 : tie.Need-enum-known-stepped-2
 enum-known-stepped-2 c = search rules
 
-with-parts-requires : tie.Need-with-parts-requires
-with-parts-requires c κs = search rules
+with_parts-requires : tie.Need-with_parts-requires
+with_parts-requires c κs = search rules
 
 returns-2 : tie.Need-returns-2
 unfolding step_answered
@@ -65,16 +65,16 @@ returns-2 c =
     let m = c.before.before in
     let f = m.before.before in
     let progress = m.stepped2.given.0.0 in
-    ap (λ (x : Record). record { answer = Done; after = x }) c.with-parts.ensures ∙ answers f (Stepped.Done progress) m.stepped2.given.1
+    ap (λ (x : Record). record { answer = Done; after = x }) c.with_parts.ensures ∙ answers f (Stepped.Done progress) m.stepped2.given.1
 
-pub step-layer-spec : {M : Type 1} → statement M
-step-layer-spec =
+pub step_layer_spec : {M : Type 1} → statement M
+step_layer_spec =
     tie.close
     (tie.spec
-    step-lent-requires
+    step_lent-requires
     enum-known-stepped
     refused-requires
     enum-known-stepped-2
-    with-parts-requires
+    with_parts-requires
     returns
     returns-2)

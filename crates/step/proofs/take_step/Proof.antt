@@ -16,8 +16,8 @@ use Rattle.rules.specs.declared.answers.Refusal.TheVariants.{StepOutside}
 use Rattle.step.proofs.take_step.Statement.{statement}
 use Rattle.step.proofs.take_step.Tie as tie
 
-is-layer-requires : tie.Need-is-layer-requires
-is-layer-requires c κs = search rules
+is_layer-requires : tie.Need-is_layer-requires
+is_layer-requires c κs = search rules
 
 refused-requires : tie.Need-refused-requires
 refused-requires c κs = search rules
@@ -61,7 +61,7 @@ module _ (c : tie.After-struct-known) where
   in-limits : within step_limits s.args.t ≡ true
   in-limits = sym c.before.before.before.within.ensures ∙ not-false _ c.before.before.if2.false
 
-add-new : tie.Need-overflow-add-new
+add-new : tie.Need-overflow_add-new
 add-new c =
     let few = (within_parts step_limits (s c).args.t (passed (in-limits c))).1 in
     omega (arith, few, (state-is (s c).args.r (standing (e c))).clock-most)
@@ -89,8 +89,8 @@ returns-3 c =
 enum-told-2 : tie.Need-enum-told-2
 enum-told-2 c = search rules
 
-step-layer-requires : tie.Need-step-layer-requires
-step-layer-requires c κs =
+step_layer-requires : tie.Need-step_layer-requires
+step_layer-requires c κs =
     let n = c.before.before in
     let k = n.before in
     (standing (e k), (in-limits k, (clock_tells (clock k + (s k).args.t) (sym c.enum-told2.given.1 ∙ n.new.ensures)).0))
@@ -98,13 +98,13 @@ step-layer-requires c κs =
 returns-4 : tie.Need-returns-4
 returns-4 c =
     let k = c.before.before.before.before in
-    in_numbers (s k).args.r (Step (s k).args.t) c.step-layer.ensures
+    in_numbers (s k).args.r (Step (s k).args.t) c.step_layer.ensures
 
-pub take-step-spec : {M : Type 1} → statement M
-take-step-spec =
+pub take_step_spec : {M : Type 1} → statement M
+take_step_spec =
     tie.close
     (tie.spec
-    is-layer-requires
+    is_layer-requires
     refused-requires
     returns
     within-requires
@@ -115,6 +115,6 @@ take-step-spec =
     enum_told
     refused-requires-3
     enum-told-2
-    step-layer-requires
+    step_layer-requires
     returns-3
     returns-4)

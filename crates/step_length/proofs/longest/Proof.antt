@@ -35,14 +35,14 @@ ranges s t j short h =
     (short, (s.requires.1.0, ((of.sensitivity_positive j h, of.sensitivity-most j h), omega (arith, of.resistance-most j h))))
 
 -- the step shortened for the bottom, then for all above it, is the longest
-first : (f : tie.After-shorten-outer invariant-loop decreases-loop) →
+first : (f : tie.After-shorten_outer invariant-loop decreases-loop) →
     let s = f.before.before.before in
-    shortened s.args.steepness f.shorten-outer.result
+    shortened s.args.steepness f.shorten_outer.result
     (contacts_above s.args.top (drop 0 (elements_in s.args.elements [] s.args.resistance.now s.args.sensitivity.now))) ≡
     longest_within s.args.top s.args.bottom s.args.steepness s.args.elements s.args.resistance.now s.args.sensitivity.now s.args.most
 first f =
     let s = f.before.before.before in
-    ap (λ (t : ℕ). shortened s.args.steepness t (contacts_above s.args.top (drop 0 (elements_in s.args.elements [] s.args.resistance.now s.args.sensitivity.now)))) f.shorten-outer.ensures.0 ∙
+    ap (λ (t : ℕ). shortened s.args.steepness t (contacts_above s.args.top (drop 0 (elements_in s.args.elements [] s.args.resistance.now s.args.sensitivity.now)))) f.shorten_outer.ensures.0 ∙
     sym (from_bottom _ _ _ s.requires.1.0.0 _ _ _ (limited s) s.requires.0.0 s.args.most) ∙
     sym (longest-is _ _ _ s.requires.1.0.0 _ _ _ (limited s) s.args.most)
 
@@ -59,56 +59,56 @@ module _ (l : tie.At-loop invariant-loop decreases-loop) where
   sum-most : j + 1 < s.args.elements → r j + r (j + 1) ≤ most_face_resistance
   sum-most h = omega (arith, (limited s).resistance-most j (omega arith), (limited s).resistance-most (j + 1) h)
 
-element-copy-out-shorten-outer : tie.Need-element-copy-out-shorten-outer invariant-loop decreases-loop
-element-copy-out-shorten-outer c = omega arith
+element-copy-out-shorten_outer : tie.Need-element-copy-out-shorten_outer invariant-loop decreases-loop
+element-copy-out-shorten_outer c = omega arith
 
-element-copy-out-shorten-outer-2 : tie.Need-element-copy-out-shorten-outer-2 invariant-loop decreases-loop
-element-copy-out-shorten-outer-2 c = omega arith
+element-copy-out-shorten_outer-2 : tie.Need-element-copy-out-shorten_outer-2 invariant-loop decreases-loop
+element-copy-out-shorten_outer-2 c = omega arith
 
-shorten-outer-requires : tie.Need-shorten-outer-requires invariant-loop decreases-loop
-shorten-outer-requires c κs = let s = c.before.before in ranges s s.args.most 0 s.requires.1.1.1 s.requires.0.0
+shorten_outer-requires : tie.Need-shorten_outer-requires invariant-loop decreases-loop
+shorten_outer-requires c κs = let s = c.before.before in ranges s s.args.most 0 s.requires.1.1.1 s.requires.0.0
 
 loop-holds : tie.Need-loop-init invariant-loop decreases-loop
-loop-holds c = (c.before.before.before.requires.0.0, omega (arith, c.shorten-outer.ensures.1), refl)
+loop-holds c = (c.before.before.before.requires.0.0, omega (arith, c.shorten_outer.ensures.1), refl)
 
-add-loop : tie.Need-overflow-add-loop invariant-loop decreases-loop
+add-loop : tie.Need-overflow_add-loop invariant-loop decreases-loop
 add-loop c = omega arith
 
-mul-shorten-inner : tie.Need-overflow-mul-shorten-inner invariant-loop decreases-loop
-mul-shorten-inner c = omega arith
+mul-shorten_inner : tie.Need-overflow_mul-shorten_inner invariant-loop decreases-loop
+mul-shorten_inner c = omega arith
 
-element-copy-out-shorten-inner : tie.Need-element-copy-out-shorten-inner invariant-loop decreases-loop
-element-copy-out-shorten-inner c = omega arith
+element-copy-out-shorten_inner : tie.Need-element-copy-out-shorten_inner invariant-loop decreases-loop
+element-copy-out-shorten_inner c = omega arith
 
-add-shorten-inner : tie.Need-overflow-add-shorten-inner invariant-loop decreases-loop
-add-shorten-inner c = omega arith
+add-shorten_inner : tie.Need-overflow_add-shorten_inner invariant-loop decreases-loop
+add-shorten_inner c = omega arith
 
-mul-shorten-inner-2 : tie.Need-overflow-mul-shorten-inner-2 invariant-loop decreases-loop
-mul-shorten-inner-2 c = omega arith
+mul-shorten_inner-2 : tie.Need-overflow_mul-shorten_inner-2 invariant-loop decreases-loop
+mul-shorten_inner-2 c = omega arith
 
-element-copy-out-shorten-inner-2 : tie.Need-element-copy-out-shorten-inner-2 invariant-loop decreases-loop
-element-copy-out-shorten-inner-2 c = omega arith
+element-copy-out-shorten_inner-2 : tie.Need-element-copy-out-shorten_inner-2 invariant-loop decreases-loop
+element-copy-out-shorten_inner-2 c = omega arith
 
-mul-shorten-inner-3 : tie.Need-overflow-mul-shorten-inner-3 invariant-loop decreases-loop
-mul-shorten-inner-3 c = omega arith
+mul-shorten_inner-3 : tie.Need-overflow_mul-shorten_inner-3 invariant-loop decreases-loop
+mul-shorten_inner-3 c = omega arith
 
-element-copy-out-shorten-inner-3 : tie.Need-element-copy-out-shorten-inner-3 invariant-loop decreases-loop
-element-copy-out-shorten-inner-3 c = omega arith
+element-copy-out-shorten_inner-3 : tie.Need-element-copy-out-shorten_inner-3 invariant-loop decreases-loop
+element-copy-out-shorten_inner-3 c = omega arith
 
-add-shorten-inner-2 : tie.Need-overflow-add-shorten-inner-2 invariant-loop decreases-loop
-add-shorten-inner-2 c = omega arith
+add-shorten_inner-2 : tie.Need-overflow_add-shorten_inner-2 invariant-loop decreases-loop
+add-shorten_inner-2 c = omega arith
 
-mul-shorten-inner-4 : tie.Need-overflow-mul-shorten-inner-4 invariant-loop decreases-loop
-mul-shorten-inner-4 c = omega arith
+mul-shorten_inner-4 : tie.Need-overflow_mul-shorten_inner-4 invariant-loop decreases-loop
+mul-shorten_inner-4 c = omega arith
 
-element-copy-out-shorten-inner-4 : tie.Need-element-copy-out-shorten-inner-4 invariant-loop decreases-loop
-element-copy-out-shorten-inner-4 c = omega arith
+element-copy-out-shorten_inner-4 : tie.Need-element-copy-out-shorten_inner-4 invariant-loop decreases-loop
+element-copy-out-shorten_inner-4 c = omega arith
 
-add-shorten-inner-3 : tie.Need-overflow-add-shorten-inner-3 invariant-loop decreases-loop
-add-shorten-inner-3 c = omega (arith, sum-most c.before.before.before.before.before (omega arith))
+add-shorten_inner-3 : tie.Need-overflow_add-shorten_inner-3 invariant-loop decreases-loop
+add-shorten_inner-3 c = omega (arith, sum-most c.before.before.before.before.before (omega arith))
 
-shorten-inner-requires : tie.Need-shorten-inner-requires invariant-loop decreases-loop
-shorten-inner-requires c κs =
+shorten_inner-requires : tie.Need-shorten_inner-requires invariant-loop decreases-loop
+shorten_inner-requires c κs =
     let l = c.before.before.before.before.before in
     let of = limited (s l) in
     let j = l.loop.j in (
@@ -125,7 +125,7 @@ shorten-inner-requires c κs =
       ),
     )
 
-add-j : tie.Need-overflow-add-j invariant-loop decreases-loop
+add-j : tie.Need-overflow_add-j invariant-loop decreases-loop
 add-j c = omega arith
 
 loop-less : tie.Need-loop-smaller invariant-loop decreases-loop
@@ -135,60 +135,60 @@ loop-again : tie.Need-loop-preserved invariant-loop decreases-loop
 loop-again c =
     let l = c.before.before.before.before.before.before in (
       omega arith,
-      omega (arith, l.loop.invariant.1, c.shorten-inner.ensures),
-      rw c.shorten-inner.ensures (sym (at_inner _ (s l).args.bottom _ (s l).requires.1.0.0 _ _ _ (limited (s l)) l.loop.j l.loop.t (omega arith)) ∙ l.loop.invariant.2),
+      omega (arith, l.loop.invariant.1, c.shorten_inner.ensures),
+      rw c.shorten_inner.ensures (sym (at_inner _ (s l).args.bottom _ (s l).requires.1.0.0 _ _ _ (limited (s l)) l.loop.j l.loop.t (omega arith)) ∙ l.loop.invariant.2),
     )
 
-mul-shorten-outer : tie.Need-overflow-mul-shorten-outer invariant-loop decreases-loop
-mul-shorten-outer c = omega arith
+mul-shorten_outer : tie.Need-overflow_mul-shorten_outer invariant-loop decreases-loop
+mul-shorten_outer c = omega arith
 
-element-copy-out-shorten-outer-3 : tie.Need-element-copy-out-shorten-outer-3 invariant-loop decreases-loop
-element-copy-out-shorten-outer-3 c = omega arith
+element-copy-out-shorten_outer-3 : tie.Need-element-copy-out-shorten_outer-3 invariant-loop decreases-loop
+element-copy-out-shorten_outer-3 c = omega arith
 
-mul-shorten-outer-2 : tie.Need-overflow-mul-shorten-outer-2 invariant-loop decreases-loop
-mul-shorten-outer-2 c = omega arith
+mul-shorten_outer-2 : tie.Need-overflow_mul-shorten_outer-2 invariant-loop decreases-loop
+mul-shorten_outer-2 c = omega arith
 
-element-copy-out-shorten-outer-4 : tie.Need-element-copy-out-shorten-outer-4 invariant-loop decreases-loop
-element-copy-out-shorten-outer-4 c = omega arith
+element-copy-out-shorten_outer-4 : tie.Need-element-copy-out-shorten_outer-4 invariant-loop decreases-loop
+element-copy-out-shorten_outer-4 c = omega arith
 
-shorten-outer-requires-2 : tie.Need-shorten-outer-requires-2 invariant-loop decreases-loop
-shorten-outer-requires-2 c κs =
+shorten_outer-requires-2 : tie.Need-shorten_outer-requires-2 invariant-loop decreases-loop
+shorten_outer-requires-2 c κs =
     let l = c.before.before.before in ranges (s l) l.loop.t l.loop.j l.loop.invariant.1 l.loop.invariant.0
 
 returns : tie.Need-returns invariant-loop decreases-loop
 returns c =
     let l = c.before.before.before.before in
-    c.shorten-outer2.ensures.0 ∙ sym (at_top _ (s l).args.bottom _ (s l).requires.1.0.0 _ _ _ (limited (s l)) l.loop.j l.loop.t (omega arith)) ∙ l.loop.invariant.2 ∙ first l.before
+    c.shorten_outer2.ensures.0 ∙ sym (at_top _ (s l).args.bottom _ (s l).requires.1.0.0 _ _ _ (limited (s l)) l.loop.j l.loop.t (omega arith)) ∙ l.loop.invariant.2 ∙ first l.before
 
-pub longest-spec : {M : Type 1} → statement M
-longest-spec =
+pub longest_spec : {M : Type 1} → statement M
+longest_spec =
     tie.close
     (tie.spec
     invariant-loop
     decreases-loop
-    element-copy-out-shorten-outer
-    element-copy-out-shorten-outer-2
-    shorten-outer-requires
+    element-copy-out-shorten_outer
+    element-copy-out-shorten_outer-2
+    shorten_outer-requires
     loop-holds
     add-loop
-    mul-shorten-inner
-    element-copy-out-shorten-inner
-    add-shorten-inner
-    mul-shorten-inner-2
-    element-copy-out-shorten-inner-2
-    mul-shorten-inner-3
-    element-copy-out-shorten-inner-3
-    add-shorten-inner-2
-    mul-shorten-inner-4
-    element-copy-out-shorten-inner-4
-    add-shorten-inner-3
-    shorten-inner-requires
+    mul-shorten_inner
+    element-copy-out-shorten_inner
+    add-shorten_inner
+    mul-shorten_inner-2
+    element-copy-out-shorten_inner-2
+    mul-shorten_inner-3
+    element-copy-out-shorten_inner-3
+    add-shorten_inner-2
+    mul-shorten_inner-4
+    element-copy-out-shorten_inner-4
+    add-shorten_inner-3
+    shorten_inner-requires
     add-j
     loop-less
     loop-again
-    mul-shorten-outer
-    element-copy-out-shorten-outer-3
-    mul-shorten-outer-2
-    element-copy-out-shorten-outer-4
-    shorten-outer-requires-2
+    mul-shorten_outer
+    element-copy-out-shorten_outer-3
+    mul-shorten_outer-2
+    element-copy-out-shorten_outer-4
+    shorten_outer-requires-2
     returns)

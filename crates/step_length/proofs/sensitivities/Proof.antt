@@ -17,7 +17,7 @@ decreases-loop n solids sensitivity₀ j₀ sensitivity j = n - j
 loop-holds : tie.Need-loop-init invariant-loop decreases-loop
 loop-holds c = (omega arith, sym (filled_zero _ _))
 
-mul-sensitivity : tie.Need-overflow-mul-sensitivity invariant-loop decreases-loop
+mul-sensitivity : tie.Need-overflow_mul-sensitivity invariant-loop decreases-loop
 mul-sensitivity c = omega arith
 
 element-copy-out-sensitivity : tie.Need-element-copy-out-sensitivity invariant-loop decreases-loop
@@ -26,13 +26,13 @@ element-copy-out-sensitivity c = omega arith
 sensitivity-requires : tie.Need-sensitivity-requires invariant-loop decreases-loop
 sensitivity-requires c κs = c.before.before.before.requires.1.0 c.before.before.loop.j (omega arith)
 
-mul-sensitivity-2 : tie.Need-overflow-mul-sensitivity-2 invariant-loop decreases-loop
+mul-sensitivity-2 : tie.Need-overflow_mul-sensitivity-2 invariant-loop decreases-loop
 mul-sensitivity-2 c = omega arith
 
 element-write-sensitivity : tie.Need-element-write-sensitivity invariant-loop decreases-loop
 element-write-sensitivity c = omega arith
 
-add-j : tie.Need-overflow-add-j invariant-loop decreases-loop
+add-j : tie.Need-overflow_add-j invariant-loop decreases-loop
 add-j c = omega arith
 
 loop-less : tie.Need-loop-smaller invariant-loop decreases-loop
@@ -46,8 +46,8 @@ loop-again c =
 returns : tie.Need-returns invariant-loop decreases-loop
 returns c = filled_done _ _ _ _ _ c.before.loop.invariant.1 (omega arith)
 
-pub sensitivities-spec : {M : Type 1} → statement M
-sensitivities-spec =
+pub sensitivities_spec : {M : Type 1} → statement M
+sensitivities_spec =
     tie.close
     (tie.spec
     invariant-loop

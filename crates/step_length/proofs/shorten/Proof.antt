@@ -17,7 +17,7 @@ returns c =
     let nothing : floor s.args.resistance s.args.divisor < 1 = (div-lt_iff_lt-mul s.requires.0.0).1 (omega arith) in
     omega arith
 
-mul-if2 : tie.Need-overflow-mul-if2
+mul-if2 : tie.Need-overflow_mul-if2
 mul-if2 c =
     omega (
       arith,
@@ -35,5 +35,5 @@ returns-2 c =
 returns-3 : tie.Need-returns-3
 returns-3 c = let s = c.before.before in undivided s.args.resistance s.args.divisor s.requires.0.0 s.args.t (omega arith)
 
-pub shorten-spec : {M : Type 1} → statement M
-shorten-spec = tie.close (tie.spec returns mul-if2 floor-requires returns-2 returns-3)
+pub shorten_spec : {M : Type 1} → statement M
+shorten_spec = tie.close (tie.spec returns mul-if2 floor-requires returns-2 returns-3)

@@ -17,10 +17,10 @@ divided-by c =
 greater-requires : tie.Need-greater-requires
 greater-requires c κs = search rules
 
-mul-shorten : tie.Need-overflow-mul-shorten
+mul-shorten : tie.Need-overflow_mul-shorten
 mul-shorten c = search rules
 
-mul-shorten-2 : tie.Need-overflow-mul-shorten-2
+mul-shorten-2 : tie.Need-overflow_mul-shorten-2
 mul-shorten-2 c = omega (arith, divided-by c)
 
 shorten-requires : tie.Need-shorten-requires
@@ -31,6 +31,6 @@ returns c =
     let s = c.before.before in
     c.shorten.ensures ∙ ap (λ (m : ℕ). min s.args.t (floor s.args.resistance (2 * m * s.args.steepness))) c.before.greater.ensures
 
-pub shorten-inner-spec : {M : Type 1} → statement M
-shorten-inner-spec =
+pub shorten_inner_spec : {M : Type 1} → statement M
+shorten_inner_spec =
     tie.close (tie.spec greater-requires mul-shorten mul-shorten-2 shorten-requires returns)

@@ -21,10 +21,10 @@ enum_told c = search rules
 enum-told-2 : tie.Need-enum-told-2
 enum-told-2 c = search rules
 
-mul-shorten : tie.Need-overflow-mul-shorten
+mul-shorten : tie.Need-overflow_mul-shorten
 mul-shorten c = search rules
 
-mul-shorten-2 : tie.Need-overflow-mul-shorten-2
+mul-shorten-2 : tie.Need-overflow_mul-shorten-2
 mul-shorten-2 c = omega (arith, divided-by c.before.before)
 
 shorten-requires : tie.Need-shorten-requires
@@ -38,7 +38,7 @@ returns-2 : tie.Need-returns-2
 unfolding shortened outer_contacts outer_resistance
 returns-2 c = (rw c.before.enum-told2.given.1 c.shorten.ensures, rw c.shorten.ensures (omega arith))
 
-pub shorten-outer-spec : {M : Type 1} → statement M
-shorten-outer-spec =
+pub shorten_outer_spec : {M : Type 1} → statement M
+shorten_outer_spec =
     tie.close
     (tie.spec enum_told enum-told-2 mul-shorten mul-shorten-2 shorten-requires returns returns-2)

@@ -14,5 +14,5 @@ returns c =
     let s = c.before in
     ap (λ (t : ℕ). ltb t s.args.t) c.longest.ensures ∙ too_long-is _ _ _ s.requires.1.0.0 _ _ _ s.requires.1.1.0 s.args.t
 
-pub too-long-spec : {M : Type 1} → statement M
-too-long-spec = tie.close (tie.spec longest-requires returns)
+pub too_long_spec : {M : Type 1} → statement M
+too_long_spec = tie.close (tie.spec longest-requires returns)

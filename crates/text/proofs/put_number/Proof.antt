@@ -5,11 +5,11 @@ use Rattle.text.proofs.Laws.{length-decimal, put_put, length_put}
 use Rattle.text.proofs.put_number.Statement.{statement}
 use Rattle.text.proofs.put_number.Tie as tie
 
-put-byte-requires : tie.Need-put-byte-requires
-put-byte-requires c κs = search rules
+put_byte-requires : tie.Need-put_byte-requires
+put_byte-requires c κs = search rules
 
-put-decimal-requires : tie.Need-put-decimal-requires
-put-decimal-requires c κs =
+put_decimal-requires : tie.Need-put_decimal-requires
+put_decimal-requires c κs =
     let s = c.before.before.before.before.before.before in
     let space = c.before.before.before.put_byte.ensures in
     omega (arith, s.requires, space.passed, length_put space, length-decimal s.args.n)
@@ -22,8 +22,8 @@ unfolding spaced
 returns c =
     let s = c.before.before.before.before.before.before.before.before.before in
     let space = c.before.before.before.before.before.before.put_byte.ensures in
-    let number = c.before.before.put-decimal.ensures in
+    let number = c.before.before.put_decimal.ensures in
     (put_put space number, omega (arith, space.passed, number.passed, length-decimal s.args.n))
 
-pub put-number-spec : {M : Type 1} → statement M
-put-number-spec = tie.close (tie.spec put-byte-requires put-decimal-requires same_length returns)
+pub put_number_spec : {M : Type 1} → statement M
+put_number_spec = tie.close (tie.spec put_byte-requires put_decimal-requires same_length returns)

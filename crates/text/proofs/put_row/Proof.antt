@@ -18,18 +18,18 @@ loop-holds : tie.Need-loop-init invariant-loop decreases-loop
 unfolding row
 loop-holds c = (omega arith, omega arith, put_nothing)
 
-mul-put-number : tie.Need-overflow-mul-put-number invariant-loop decreases-loop
-mul-put-number c = omega arith
+mul-put_number : tie.Need-overflow_mul-put_number invariant-loop decreases-loop
+mul-put_number c = omega arith
 
-shared-slice-read-put-number : tie.Need-shared-slice-read-put-number invariant-loop decreases-loop
-shared-slice-read-put-number c = omega arith
+shared-slice-read-put_number : tie.Need-shared-slice-read-put_number invariant-loop decreases-loop
+shared-slice-read-put_number c = omega arith
 
-put-number-requires : tie.Need-put-number-requires invariant-loop decreases-loop
-put-number-requires c κs =
+put_number-requires : tie.Need-put_number-requires invariant-loop decreases-loop
+put_number-requires c κs =
     let l = c.before.before.before in
     omega (arith, length_put l.loop.invariant.2, l.before.before.before.requires)
 
-add-i : tie.Need-overflow-add-i invariant-loop decreases-loop
+add-i : tie.Need-overflow_add-i invariant-loop decreases-loop
 add-i c = omega arith
 
 loop-less : tie.Need-loop-smaller invariant-loop decreases-loop
@@ -39,7 +39,7 @@ loop-again : tie.Need-loop-preserved invariant-loop decreases-loop
 loop-again c =
     let l = c.before.before.before.before.before.before in
     let s = l.before.before.before in
-    let put = c.before.before.put-number.ensures in (
+    let put = c.before.before.put_number.ensures in (
       omega arith,
       omega (arith, put.1, l.loop.invariant.1),
       rw (row_more s.args.values.now l.loop.i (omega (arith, s.requires.0))) (put_put l.loop.invariant.2 put.0),
@@ -53,16 +53,16 @@ returns c =
     let all : c.before.before.before.before.args.n ≡ c.before.loop.i = omega arith in
     (rw all c.before.loop.invariant.2, omega arith)
 
-pub put-row-spec : {M : Type 1} → statement M
-put-row-spec =
+pub put_row_spec : {M : Type 1} → statement M
+put_row_spec =
     tie.close
     (tie.spec
     invariant-loop
     decreases-loop
     loop-holds
-    mul-put-number
-    shared-slice-read-put-number
-    put-number-requires
+    mul-put_number
+    shared-slice-read-put_number
+    put_number-requires
     add-i
     loop-less
     loop-again

@@ -17,8 +17,8 @@ negative c = lt_z_true _ _ (simp (read_back c.before.before.ranges.z) at c.if1.t
 positive : (c : tie.Else1) → pos 0 ≤ℤ c.before.before.args.z
 positive c = lt_z_false c.before.before.args.z (pos 0) (simp (read_back c.before.before.ranges.z) at c.if1.false)
 
-put-byte-requires : tie.Need-put-byte-requires
-put-byte-requires c κs =
+put_byte-requires : tie.Need-put_byte-requires
+put_byte-requires c κs =
     let s = c.before.before.before in
     omega (arith, s.requires, ap length (signed_negative s.args.z (negative c.before)))
 
@@ -27,8 +27,8 @@ size-requires c κs =
     let s = c.before.before.before.before.before.before.before in
     simp (read_back s.ranges.z) (negative c.before.before.before.before.before)
 
-put-decimal-requires : tie.Need-put-decimal-requires
-put-decimal-requires c κs =
+put_decimal-requires : tie.Need-put_decimal-requires
+put_decimal-requires c κs =
     let s = c.before.before.before.before.before.before.before.before in
     let sign = c.before.before.before.before.put_byte.ensures in
     omega (
@@ -40,13 +40,13 @@ put-decimal-requires c κs =
       ap (λ (n : ℕ). length (decimal n)) (simp (read_back s.ranges.z) at c.size.ensures),
     )
 
-cast-put-decimal : tie.Need-overflow-cast-put-decimal
-cast-put-decimal c =
+cast-put_decimal : tie.Need-overflow_cast-put_decimal
+cast-put_decimal c =
     let s = c.before.before.before in
     simp (read_back s.ranges.z) (cast_fits s.args.z (positive c.before) s.ranges.z)
 
-put-decimal-requires-2 : tie.Need-put-decimal-requires-2
-put-decimal-requires-2 c κs =
+put_decimal-requires-2 : tie.Need-put_decimal-requires-2
+put_decimal-requires-2 c κs =
     let s = c.before.before.before in
     simp (read_back s.ranges.z) (omega (arith, s.requires, ap length (signed_positive s.args.z (positive c.before))))
 
@@ -58,7 +58,7 @@ returns c =
     let s = c.before.before.before.before.before.before.before.before.before.before.before in
     rw (signed_negative s.args.z (negative c.before.before.before.before.before.before.before.before.before))
     (put_put c.before.before.before.before.before.before.before.put_byte.ensures
-    (rw (simp (read_back s.ranges.z) at c.before.before.before.size.ensures) at c.before.before.put-decimal.ensures))
+    (rw (simp (read_back s.ranges.z) at c.before.before.before.size.ensures) at c.before.before.put_decimal.ensures))
 
 same-length-2 : tie.Need-same-length-2
 same-length-2 c = search rules
@@ -67,17 +67,17 @@ returns-2 : tie.Need-returns-2
 returns-2 c =
     let s = c.before.before.before.before.before.before in
     rw (signed_positive s.args.z (positive c.before.before.before.before))
-    (simp (read_back s.ranges.z) at c.before.before.put-decimal2.ensures)
+    (simp (read_back s.ranges.z) at c.before.before.put_decimal2.ensures)
 
-pub put-signed-spec : {M : Type 1} → statement M
-put-signed-spec =
+pub put_signed_spec : {M : Type 1} → statement M
+put_signed_spec =
     tie.close
     (tie.spec
-    put-byte-requires
+    put_byte-requires
     size-requires
-    put-decimal-requires
-    cast-put-decimal
-    put-decimal-requires-2
+    put_decimal-requires
+    cast-put_decimal
+    put_decimal-requires-2
     same_length
     returns
     same-length-2

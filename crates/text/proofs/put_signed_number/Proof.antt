@@ -6,11 +6,11 @@ use Rattle.text.proofs.Laws.{length_signed, put_put, length_put}
 use Rattle.text.proofs.put_signed_number.Statement.{statement}
 use Rattle.text.proofs.put_signed_number.Tie as tie
 
-put-byte-requires : tie.Need-put-byte-requires
-put-byte-requires c κs = search rules
+put_byte-requires : tie.Need-put_byte-requires
+put_byte-requires c κs = search rules
 
-put-signed-requires : tie.Need-put-signed-requires
-put-signed-requires c κs =
+put_signed-requires : tie.Need-put_signed-requires
+put_signed-requires c κs =
     let s = c.before.before.before.before.before.before in
     let space = c.before.before.before.put_byte.ensures in
     simp (read_back s.ranges.z) (omega (arith, s.requires, space.passed, length_put space, length_signed s.args.z))
@@ -23,9 +23,9 @@ unfolding signed_spaced
 returns c =
     let s = c.before.before.before.before.before.before.before.before.before in
     let space = c.before.before.before.before.before.before.put_byte.ensures in
-    let number = simp (read_back s.ranges.z) at c.before.before.put-signed.ensures in
+    let number = simp (read_back s.ranges.z) at c.before.before.put_signed.ensures in
     (put_put space number, omega (arith, space.passed, number.passed, length_signed s.args.z))
 
-pub put-signed-number-spec : {M : Type 1} → statement M
-put-signed-number-spec =
-    tie.close (tie.spec put-byte-requires put-signed-requires same_length returns)
+pub put_signed_number_spec : {M : Type 1} → statement M
+put_signed_number_spec =
+    tie.close (tie.spec put_byte-requires put_signed-requires same_length returns)

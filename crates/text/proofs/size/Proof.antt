@@ -26,13 +26,13 @@ module _ (s : tie.Start) where
   one_more : nat_abs rest + 1 ≡ nat_abs s.args.z
   one_more = omega (arith, rest-parts, nat_abs_parts rest, nat_abs_parts s.args.z)
 
-sub-result : tie.Need-overflow-sub-result
+sub-result : tie.Need-overflow_sub-result
 sub-result c = simp (read_back c.ranges.z) (rest-fits c)
 
-cast-result : tie.Need-overflow-cast-result
+cast-result : tie.Need-overflow_cast-result
 cast-result c = simp (read_back c.ranges.z, read_back (rest-fits c)) (cast_fits (rest c) (rest-nonNeg c) (rest-fits c))
 
-add-result : tie.Need-overflow-add-result
+add-result : tie.Need-overflow_add-result
 add-result c =
     simp (read_back c.ranges.z, read_back (rest-fits c))
     (record { fits = omega (arith, one_more c, nat_abs_parts c.args.z, rest-parts c, fits_down c.args.z c.ranges.z) })
@@ -40,5 +40,5 @@ add-result c =
 returns : tie.Need-returns
 returns c = simp (read_back c.ranges.z, read_back (rest-fits c)) (one_more c)
 
-pub size-spec : {M : Type 1} → statement M
-size-spec = tie.close (tie.spec sub-result cast-result add-result returns)
+pub size_spec : {M : Type 1} → statement M
+size_spec = tie.close (tie.spec sub-result cast-result add-result returns)

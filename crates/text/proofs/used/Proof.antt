@@ -17,10 +17,10 @@ decreases-loop values n₀ n = n
 loop-holds : tie.Need-loop-init invariant-loop decreases-loop
 loop-holds c = (omega arith, ap trimmed (take-length _))
 
-sub-if1 : tie.Need-overflow-sub-if1 invariant-loop decreases-loop
+sub-if1 : tie.Need-overflow_sub-if1 invariant-loop decreases-loop
 sub-if1 c = omega arith
 
-mul-if1 : tie.Need-overflow-mul-if1 invariant-loop decreases-loop
+mul-if1 : tie.Need-overflow_mul-if1 invariant-loop decreases-loop
 mul-if1 c = omega arith
 
 shared-slice-read-if1 : tie.Need-shared-slice-read-if1 invariant-loop decreases-loop
@@ -32,7 +32,7 @@ returns c =
     let values = l.before.args.values.now in
     (trimmed-all values l.loop.n (omega arith) (omega arith) c.if1.true ∙ l.loop.invariant.1, l.loop.invariant.0)
 
-sub-n : tie.Need-overflow-sub-n invariant-loop decreases-loop
+sub-n : tie.Need-overflow_sub-n invariant-loop decreases-loop
 sub-n c = omega arith
 
 loop-less : tie.Need-loop-smaller invariant-loop decreases-loop
@@ -50,8 +50,8 @@ returns-2 c =
     let none : c.before.loop.n ≡ 0 = omega arith in
     (rw none (rw none at c.before.loop.invariant.1), c.before.loop.invariant.0)
 
-pub used-spec : {M : Type 1} → statement M
-used-spec =
+pub used_spec : {M : Type 1} → statement M
+used_spec =
     tie.close
     (tie.spec
     invariant-loop

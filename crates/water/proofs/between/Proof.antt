@@ -4,10 +4,10 @@ use Rattle.numbers.proofs.Signed.{read_back, read_unsigned}
 use Rattle.water.proofs.between.Statement.{statement}
 use Rattle.water.proofs.between.Tie as tie
 
-cast-if1 : tie.Need-overflow-cast-if1
+cast-if1 : tie.Need-overflow_cast-if1
 cast-if1 c = search rules
 
-cast-result : tie.Need-overflow-cast-result
+cast-result : tie.Need-overflow_cast-result
 cast-result c = search rules
 
 returns : tie.Need-returns
@@ -22,5 +22,5 @@ returns-2 c =
     let low = read_unsigned s.args.low (omega arith) in
     rw (low, read_back s.ranges.height, simp (low, read_back s.ranges.height) at c.if1.false)
 
-pub between-spec : {M : Type 1} → statement M
-between-spec = tie.close (tie.spec cast-if1 cast-result returns returns-2)
+pub between_spec : {M : Type 1} → statement M
+between_spec = tie.close (tie.spec cast-if1 cast-result returns returns-2)

@@ -11,13 +11,13 @@ use Rattle.water.proofs.highest_water.Tie as tie
 product : (s : tie.Start) → (s.args.void + 1) * s.args.solids ≤ (void_limits.most + 1) * solids_limits.most
 product s = mul-le-mul {n₁ = s.args.void + 1} {m₁ = s.args.solids} {n₂ = void_limits.most + 1} {m₂ = solids_limits.most} (omega arith) (omega arith)
 
-add-floor : tie.Need-overflow-add-floor
+add-floor : tie.Need-overflow_add-floor
 add-floor c = search rules
 
-mul-floor : tie.Need-overflow-mul-floor
+mul-floor : tie.Need-overflow_mul-floor
 mul-floor c = omega (arith, product c)
 
-sub-floor : tie.Need-overflow-sub-floor
+sub-floor : tie.Need-overflow_sub-floor
 sub-floor c = search rules
 
 floor-requires : tie.Need-floor-requires
@@ -27,5 +27,5 @@ returns : tie.Need-returns
 unfolding highest_water
 returns c = (c.floor.ensures.quotient, omega (arith, product c.before, floored_remains c.floor.ensures))
 
-pub highest-water-spec : {M : Type 1} → statement M
-highest-water-spec = tie.close (tie.spec add-floor mul-floor sub-floor floor-requires returns)
+pub highest_water_spec : {M : Type 1} → statement M
+highest_water_spec = tie.close (tie.spec add-floor mul-floor sub-floor floor-requires returns)

@@ -9,7 +9,7 @@ use Rattle.water.proofs.lowest_water.Tie as tie
 product : (s : tie.Start) → s.args.void * s.args.solids ≤ void_limits.most * solids_limits.most
 product s = mul-le-mul {n₁ = s.args.void} {m₁ = s.args.solids} {n₂ = void_limits.most} {m₂ = solids_limits.most} (omega arith) (omega arith)
 
-mul-ceil : tie.Need-overflow-mul-ceil
+mul-ceil : tie.Need-overflow_mul-ceil
 mul-ceil c = omega (arith, product c)
 
 ceil-requires : tie.Need-ceil-requires
@@ -19,5 +19,5 @@ returns : tie.Need-returns
 unfolding lowest_water
 returns c = (c.ceil.ensures.quotient, omega (arith, product c.before, c.ceil.ensures.below))
 
-pub lowest-water-spec : {M : Type 1} → statement M
-lowest-water-spec = tie.close (tie.spec mul-ceil ceil-requires returns)
+pub lowest_water_spec : {M : Type 1} → statement M
+lowest_water_spec = tie.close (tie.spec mul-ceil ceil-requires returns)

@@ -71,49 +71,49 @@ module _ (l : tie.At-loop invariant-loop decreases-loop) where
 loop-holds : tie.Need-loop-init invariant-loop decreases-loop
 loop-holds c = (omega arith, refl, sym (filled_zero _ _))
 
-mul-leaves : tie.Need-overflow-mul-leaves invariant-loop decreases-loop
+mul-leaves : tie.Need-overflow_mul-leaves invariant-loop decreases-loop
 mul-leaves c = omega arith
 
 element-copy-out-leaves : tie.Need-element-copy-out-leaves invariant-loop decreases-loop
 element-copy-out-leaves c = omega arith
 
-mul-new-water : tie.Need-overflow-mul-new-water invariant-loop decreases-loop
-mul-new-water c = omega arith
+mul-new_water : tie.Need-overflow_mul-new_water invariant-loop decreases-loop
+mul-new_water c = omega arith
 
-element-copy-out-new-water : tie.Need-element-copy-out-new-water invariant-loop decreases-loop
-element-copy-out-new-water c = omega arith
+element-copy-out-new_water : tie.Need-element-copy-out-new_water invariant-loop decreases-loop
+element-copy-out-new_water c = omega arith
 
-new-water-requires : tie.Need-new-water-requires invariant-loop decreases-loop
-new-water-requires c κs =
+new_water-requires : tie.Need-new_water-requires invariant-loop decreases-loop
+new_water-requires c κs =
     let l = c.before.before.before in
     simp (here l, read_back (above-fits l (omega arith)), enters_is l)
     ((movable l).water-most (j l) (omega arith), ((movable l).above_within (j l) (omega arith), enters-within l (omega arith)))
 
-module _ (c : tie.After-new-water invariant-loop decreases-loop) where
+module _ (c : tie.After-new_water invariant-loop decreases-loop) where
   abbrev at : tie.At-loop invariant-loop decreases-loop
   at = c.before.before.before.before
 
-  result-is : j at < (s at).args.elements → c.new-water.result ≡ new_water (lowest at) (above at) (water at) (j at)
-  result-is h = simp (here at, read_back (above-fits at h), enters_is at) at c.new-water.ensures
+  result-is : j at < (s at).args.elements → c.new_water.result ≡ new_water (lowest at) (above at) (water at) (j at)
+  result-is h = simp (here at, read_back (above-fits at h), enters_is at) at c.new_water.ensures
 
-  result_fits : SFits w64 c.new-water.result
-  result_fits = record { sfits = c.new-water.type-inv }
+  result_fits : SFits w64 c.new_water.result
+  result_fits = record { sfits = c.new_water.type-inv }
 
-  not_negative : j at < (s at).args.elements → pos 0 ≤ℤ c.new-water.result
+  not_negative : j at < (s at).args.elements → pos 0 ≤ℤ c.new_water.result
   not_negative h = rw (result-is h) ((s at).pre.1.1.0 (j at) h)
 
-cast-water : tie.Need-overflow-cast-water invariant-loop decreases-loop
+cast-water : tie.Need-overflow_cast-water invariant-loop decreases-loop
 cast-water c =
     let l = c.before.before.before.before in
     simp (read_back (result_fits c)) (cast_fits _ (not_negative c (omega arith)) (result_fits c))
 
-mul-water : tie.Need-overflow-mul-water invariant-loop decreases-loop
+mul-water : tie.Need-overflow_mul-water invariant-loop decreases-loop
 mul-water c = omega arith
 
 element-write-water : tie.Need-element-write-water invariant-loop decreases-loop
 element-write-water c = omega arith
 
-add-j : tie.Need-overflow-add-j invariant-loop decreases-loop
+add-j : tie.Need-overflow_add-j invariant-loop decreases-loop
 add-j c = omega arith
 
 loop-less : tie.Need-loop-smaller invariant-loop decreases-loop
@@ -132,8 +132,8 @@ loop-again c =
 returns : tie.Need-returns invariant-loop decreases-loop
 returns c = let l = c.before in filled_done _ _ (j l) _ _ (moved l) (omega arith)
 
-pub move-water-spec : {M : Type 1} → statement M
-move-water-spec =
+pub move_water_spec : {M : Type 1} → statement M
+move_water_spec =
     tie.close
     (tie.spec
     invariant-loop
@@ -141,9 +141,9 @@ move-water-spec =
     loop-holds
     mul-leaves
     element-copy-out-leaves
-    mul-new-water
-    element-copy-out-new-water
-    new-water-requires
+    mul-new_water
+    element-copy-out-new_water
+    new_water-requires
     cast-water
     mul-water
     element-write-water

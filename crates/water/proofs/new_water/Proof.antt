@@ -26,18 +26,18 @@ module _ (c : tie.Start) where
   new-fits : SFits w64 (pos c.args.water -ℤ c.args.leaves +ℤ c.args.enters)
   new-fits = within_fits tt (within-add less c.requires.1.1)
 
-cast-result : tie.Need-overflow-cast-result
+cast-result : tie.Need-overflow_cast-result
 cast-result c = search rules
 
-sub-result : tie.Need-overflow-sub-result
+sub-result : tie.Need-overflow_sub-result
 sub-result c = simp (water-is c, read_back c.ranges.leaves) (less-fits c)
 
-add-result : tie.Need-overflow-add-result
+add-result : tie.Need-overflow_add-result
 add-result c = simp (water-is c, read_back c.ranges.leaves, read_back c.ranges.enters, read_back (less-fits c)) (new-fits c)
 
 returns : tie.Need-returns
 returns c =
     simp (water-is c, read_back c.ranges.leaves, read_back c.ranges.enters, read_back (less-fits c), read_back (new-fits c))
 
-pub new-water-spec : {M : Type 1} → statement M
-new-water-spec = tie.close (tie.spec cast-result sub-result add-result returns)
+pub new_water_spec : {M : Type 1} → statement M
+new_water_spec = tie.close (tie.spec cast-result sub-result add-result returns)

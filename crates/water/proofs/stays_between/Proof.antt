@@ -66,32 +66,32 @@ module _ (l : tie.At-loop invariant-loop decreases-loop) where
 loop-holds : tie.Need-loop-init invariant-loop decreases-loop
 loop-holds c = (omega arith, refl, all_rest _ _)
 
-mul-leaves : tie.Need-overflow-mul-leaves invariant-loop decreases-loop
+mul-leaves : tie.Need-overflow_mul-leaves invariant-loop decreases-loop
 mul-leaves c = omega arith
 
 element-copy-out-leaves : tie.Need-element-copy-out-leaves invariant-loop decreases-loop
 element-copy-out-leaves c = omega arith
 
-mul-between : tie.Need-overflow-mul-between invariant-loop decreases-loop
+mul-between : tie.Need-overflow_mul-between invariant-loop decreases-loop
 mul-between c = omega arith
 
 element-copy-out-between : tie.Need-element-copy-out-between invariant-loop decreases-loop
 element-copy-out-between c = omega arith
 
-mul-between-2 : tie.Need-overflow-mul-between-2 invariant-loop decreases-loop
+mul-between-2 : tie.Need-overflow_mul-between-2 invariant-loop decreases-loop
 mul-between-2 c = omega arith
 
 element-copy-out-between-2 : tie.Need-element-copy-out-between-2 invariant-loop decreases-loop
 element-copy-out-between-2 c = omega arith
 
-mul-new-water : tie.Need-overflow-mul-new-water invariant-loop decreases-loop
-mul-new-water c = omega arith
+mul-new_water : tie.Need-overflow_mul-new_water invariant-loop decreases-loop
+mul-new_water c = omega arith
 
-element-copy-out-new-water : tie.Need-element-copy-out-new-water invariant-loop decreases-loop
-element-copy-out-new-water c = omega arith
+element-copy-out-new_water : tie.Need-element-copy-out-new_water invariant-loop decreases-loop
+element-copy-out-new_water c = omega arith
 
-new-water-requires : tie.Need-new-water-requires invariant-loop decreases-loop
-new-water-requires c κs =
+new_water-requires : tie.Need-new_water-requires invariant-loop decreases-loop
+new_water-requires c κs =
     let l = c.before.before.before.before.before in
     simp (read_back (above-fits l (omega arith)), enters_is l)
     ((movable l).water-most (j l) (omega arith), ((movable l).above_within (j l) (omega arith), enters-within l (omega arith)))
@@ -104,8 +104,8 @@ tested : (c : tie.After-between invariant-loop decreases-loop) → let l = c.bef
     j l < (s l).args.elements → test l (j l) ≡ c.between.result
 tested c h =
     let l = c.before.before.before.before.before.before.before in
-    let w = simp (read_back (above-fits l h), enters_is l) at c.before.new-water.ensures in
-    sym ((simp (read_back {z = c.before.new-water.result} (record { sfits = c.before.new-water.type-inv })) at c.between.ensures) ∙
+    let w = simp (read_back (above-fits l h), enters_is l) at c.before.new_water.ensures in
+    sym ((simp (read_back {z = c.before.new_water.result} (record { sfits = c.before.new_water.type-inv })) at c.between.ensures) ∙
     ap (between (get_or (s l).args.low.now (j l) 0) (get_or (s l).args.high.now (j l) 0)) w)
 
 returns : tie.Need-returns invariant-loop decreases-loop
@@ -113,7 +113,7 @@ returns c =
     let l = c.before.before.before.before.before.before.before.before in
     index_fails (s l).args.elements (test l) (j l) (rest l) (omega arith) (tested c.before (omega arith) ∙ not-true _ c.if1.true)
 
-add-j : tie.Need-overflow-add-j invariant-loop decreases-loop
+add-j : tie.Need-overflow_add-j invariant-loop decreases-loop
 add-j c = omega arith
 
 loop-less : tie.Need-loop-smaller invariant-loop decreases-loop
@@ -131,8 +131,8 @@ loop-again c =
 returns-2 : tie.Need-returns-2 invariant-loop decreases-loop
 returns-2 c = let l = c.before in index_ends (s l).args.elements (test l) (j l) (rest l) (omega arith)
 
-pub stays-between-spec : {M : Type 1} → statement M
-stays-between-spec =
+pub stays_between_spec : {M : Type 1} → statement M
+stays_between_spec =
     tie.close
     (tie.spec
     invariant-loop
@@ -144,9 +144,9 @@ stays-between-spec =
     element-copy-out-between
     mul-between-2
     element-copy-out-between-2
-    mul-new-water
-    element-copy-out-new-water
-    new-water-requires
+    mul-new_water
+    element-copy-out-new_water
+    new_water-requires
     between-requires
     returns
     add-j

@@ -43,8 +43,8 @@ returns : tie.Need-returns
 unfolding words_header
 returns c = cc
 
-pub read-header-spec : {M : Type 1} → statement M
-read-header-spec =
+pub read_header_spec : {M : Type 1} → statement M
+read_header_spec =
     tie.close
     (tie.spec
     word-requires

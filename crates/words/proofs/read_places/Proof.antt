@@ -19,19 +19,19 @@ decreases-loop words at numbers₀ i₀ numbers i = length numbers₀ - i
 loop-holds : tie.Need-loop-init invariant-loop decreases-loop
 loop-holds c = (omega arith, sym (filled_zero _ _), refl)
 
-add-word : tie.Need-overflow-add-word invariant-loop decreases-loop
+add-word : tie.Need-overflow_add-word invariant-loop decreases-loop
 add-word c = omega arith
 
 word-requires : tie.Need-word-requires invariant-loop decreases-loop
 word-requires c κs = search rules
 
-mul-numbers : tie.Need-overflow-mul-numbers invariant-loop decreases-loop
+mul-numbers : tie.Need-overflow_mul-numbers invariant-loop decreases-loop
 mul-numbers c = omega arith
 
 slice-write-numbers : tie.Need-slice-write-numbers invariant-loop decreases-loop
 slice-write-numbers c = omega arith
 
-add-i : tie.Need-overflow-add-i invariant-loop decreases-loop
+add-i : tie.Need-overflow_add-i invariant-loop decreases-loop
 add-i c = omega arith
 
 loop-less : tie.Need-loop-smaller invariant-loop decreases-loop
@@ -51,8 +51,8 @@ returns c =
     let numbers = c.before.before.before.before.args.numbers.now in
     filled_done _ _ _ (length numbers) _ c.before.loop.invariant.1 (omega arith) ∙ filled-all numbers (length numbers) _ (omega arith)
 
-pub read-places-spec : {M : Type 1} → statement M
-read-places-spec =
+pub read_places_spec : {M : Type 1} → statement M
+read_places_spec =
     tie.close
     (tie.spec
     invariant-loop

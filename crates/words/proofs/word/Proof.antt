@@ -4,7 +4,7 @@ use borrow.Author.Rules.{rules}
 use Rattle.words.proofs.word.Statement.{statement}
 use Rattle.words.proofs.word.Tie as tie
 
-mul-result : tie.Need-overflow-mul-result
+mul-result : tie.Need-overflow_mul-result
 mul-result c = search rules
 
 shared-slice-read-result : tie.Need-shared-slice-read-result
@@ -16,5 +16,5 @@ returns c = search rules
 returns-2 : tie.Need-returns-2
 returns-2 c = sym (get_or-eq_default c.before.args.words.now 0 c.if1.false)
 
-pub word-spec : {M : Type 1} → statement M
-word-spec = tie.close (tie.spec mul-result shared-slice-read-result returns returns-2)
+pub word_spec : {M : Type 1} → statement M
+word_spec = tie.close (tie.spec mul-result shared-slice-read-result returns returns-2)

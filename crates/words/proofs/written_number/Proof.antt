@@ -9,8 +9,8 @@ enum-known-written c = search rules
 enum-known-written-2 : tie.Need-enum-known-written-2
 enum-known-written-2 c = search rules
 
-refusal-number-requires : tie.Need-refusal-number-requires
-refusal-number-requires c κs = search rules
+refusal_number-requires : tie.Need-refusal_number-requires
+refusal_number-requires c κs = search rules
 
 returns : tie.Need-returns
 unfolding written_number
@@ -18,9 +18,9 @@ returns c = search rules
 
 returns-2 : tie.Need-returns-2
 unfolding written_number
-returns-2 c = rw c.before.before.written2.given.1 c.refusal-number.ensures
+returns-2 c = rw c.before.before.written2.given.1 c.refusal_number.ensures
 
-pub written-number-spec : {M : Type 1} → statement M
-written-number-spec =
+pub written_number_spec : {M : Type 1} → statement M
+written_number_spec =
     tie.close
-    (tie.spec enum-known-written enum-known-written-2 refusal-number-requires returns returns-2)
+    (tie.spec enum-known-written enum-known-written-2 refusal_number-requires returns returns-2)

@@ -17,11 +17,11 @@ use Rattle.working.proofs.Storing.{element-stored}
 use Rattle.working.proofs.put_element.Statement.{statement}
 use Rattle.working.proofs.put_element.Tie as tie
 
-void-ratio-requires : tie.Need-void-ratio-requires
-void-ratio-requires c κs = search rules
+void_ratio-requires : tie.Need-void_ratio-requires
+void_ratio-requires c κs = search rules
 
 -- what is read
-module _ (v : tie.After-void-ratio) where
+module _ (v : tie.After-void_ratio) where
   abbrev s : tie.Start
   s = v.before.before
 
@@ -35,43 +35,43 @@ module _ (v : tie.After-void-ratio) where
   room : (n : ℕ) → n ≤ 9 → Fits w64 (s.args.at + n)
   room n h = omega (arith, s.pre.0)
 
-  on-first : is_on (curve_at (compressibility_points soil) v.void-ratio.result) ≡ true
-  on-first = stands_at (compressibility_points soil) s.args.solids s.args.water v.void-ratio.ensures s.pre.1.1.1
+  on-first : is_on (curve_at (compressibility_points soil) v.void_ratio.result) ≡ true
+  on-first = stands_at (compressibility_points soil) s.args.solids s.args.water v.void_ratio.ensures s.pre.1.1.1
 
-  on-second : is_on (curve_at (conductivity_points soil) v.void-ratio.result) ≡ true
+  on-second : is_on (curve_at (conductivity_points soil) v.void_ratio.result) ≡ true
   on-second =
       is_true _
-      (conducts (conductivity_points soil) (compressibility_points soil) v.void-ratio.result (passed sound.compressibility_is_sound)
+      (conducts (conductivity_points soil) (compressibility_points soil) v.void_ratio.result (passed sound.compressibility_is_sound)
       (passed sound.conductivity_is_sound) (passed on-first))
 
-read-curve-requires : tie.Need-read-curve-requires
-read-curve-requires c κs =
+read_curve-requires : tie.Need-read_curve-requires
+read_curve-requires c κs =
     let v = c.before.before.before in
     (((sound v).compressibility_few, (sound v).compressibility_many), (compressibility_smooth _ _ _ (sound v).compressibility_is_sound, on-first v))
 
-read-curve-requires-2 : tie.Need-read-curve-requires-2
-read-curve-requires-2 c κs =
+read_curve-requires-2 : tie.Need-read_curve-requires-2
+read_curve-requires-2 c κs =
     let v = c.before.before.before.before.before.before.before in
     (((sound v).conductivity_few, (sound v).conductivity_many), (conductivity_smooth _ _ _ _ (sound v).conductivity_is_sound, on-second v))
 
-put-three-requires : tie.Need-put-three-requires
-put-three-requires c κs = search rules
+put_three-requires : tie.Need-put_three-requires
+put_three-requires c κs = search rules
 
-add-put-three : tie.Need-overflow-add-put-three
-add-put-three c =
+add-put_three : tie.Need-overflow_add-put_three
+add-put_three c =
     let k = c.before.before.before.before in
     room k.before.before.before.before.before.before.before.before 3 (omega arith)
 
-put-three-requires-2 : tie.Need-put-three-requires-2
-put-three-requires-2 c κs = search rules
+put_three-requires-2 : tie.Need-put_three-requires-2
+put_three-requires-2 c κs = search rules
 
-add-put-three-2 : tie.Need-overflow-add-put-three-2
-add-put-three-2 c =
+add-put_three-2 : tie.Need-overflow_add-put_three-2
+add-put_three-2 c =
     let k = c.before.before.before.before.before.before.before.before in
     room k.before.before.before.before.before.before.before.before 6 (omega arith)
 
-put-three-requires-3 : tie.Need-put-three-requires-3
-put-three-requires-3 c κs = search rules
+put_three-requires-3 : tie.Need-put_three-requires-3
+put_three-requires-3 c κs = search rules
 
 same_length : tie.Need-same-length
 same_length c = search rules
@@ -85,20 +85,20 @@ returns c =
     let stress = conductivity.before.before.before.before in
     let v = stress.before.before.before.before in
     element-stored (soil v) (s v).args.solids (s v).args.water (s v).args.after (s v).args.at (s v).args.out.now
-    v.void-ratio.ensures stress.read-curve.ensures.0 conductivity.read-curve2.ensures.0 first.put_three.ensures
-    second.put-three2.ensures third.put-three3.ensures
+    v.void_ratio.ensures stress.read_curve.ensures.0 conductivity.read_curve2.ensures.0 first.put_three.ensures
+    second.put_three2.ensures third.put_three3.ensures
 
-pub put-element-spec : {M : Type 1} → statement M
-put-element-spec =
+pub put_element_spec : {M : Type 1} → statement M
+put_element_spec =
     tie.close
     (tie.spec
-    void-ratio-requires
-    read-curve-requires
-    read-curve-requires-2
-    put-three-requires
-    add-put-three
-    put-three-requires-2
-    add-put-three-2
-    put-three-requires-3
+    void_ratio-requires
+    read_curve-requires
+    read_curve-requires-2
+    put_three-requires
+    add-put_three
+    put_three-requires-2
+    add-put_three-2
+    put_three-requires-3
     same_length
     returns)

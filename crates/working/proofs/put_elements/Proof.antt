@@ -42,38 +42,38 @@ module _ (c : tie.In-loop invariant-loop decreases-loop) where
 loop-holds : tie.Need-loop-init invariant-loop decreases-loop
 loop-holds c = (omega arith, refl, stored_none 9 _ (λ i. refl) _ _)
 
-mul-put-element : tie.Need-overflow-mul-put-element invariant-loop decreases-loop
-mul-put-element c = omega (arith, few c)
+mul-put_element : tie.Need-overflow_mul-put_element invariant-loop decreases-loop
+mul-put_element c = omega (arith, few c)
 
-array-read-put-element : tie.Need-array-read-put-element invariant-loop decreases-loop
-array-read-put-element c = omega (arith, few c)
+array-read-put_element : tie.Need-array-read-put_element invariant-loop decreases-loop
+array-read-put_element c = omega (arith, few c)
 
-mul-put-element-2 : tie.Need-overflow-mul-put-element-2 invariant-loop decreases-loop
-mul-put-element-2 c = omega (arith, few c)
+mul-put_element-2 : tie.Need-overflow_mul-put_element-2 invariant-loop decreases-loop
+mul-put_element-2 c = omega (arith, few c)
 
-array-read-put-element-2 : tie.Need-array-read-put-element-2 invariant-loop decreases-loop
-array-read-put-element-2 c = omega (arith, few c)
+array-read-put_element-2 : tie.Need-array-read-put_element-2 invariant-loop decreases-loop
+array-read-put_element-2 c = omega (arith, few c)
 
-mul-put-element-3 : tie.Need-overflow-mul-put-element-3 invariant-loop decreases-loop
-mul-put-element-3 c = omega (arith, few c)
+mul-put_element-3 : tie.Need-overflow_mul-put_element-3 invariant-loop decreases-loop
+mul-put_element-3 c = omega (arith, few c)
 
-array-read-put-element-3 : tie.Need-array-read-put-element-3 invariant-loop decreases-loop
-array-read-put-element-3 c = omega (arith, few c)
+array-read-put_element-3 : tie.Need-array-read-put_element-3 invariant-loop decreases-loop
+array-read-put_element-3 c = omega (arith, few c)
 
-mul-put-element-4 : tie.Need-overflow-mul-put-element-4 invariant-loop decreases-loop
-mul-put-element-4 c = omega (arith, few c)
+mul-put_element-4 : tie.Need-overflow_mul-put_element-4 invariant-loop decreases-loop
+mul-put_element-4 c = omega (arith, few c)
 
-add-put-element : tie.Need-overflow-add-put-element invariant-loop decreases-loop
-add-put-element c = omega (arith, room c)
+add-put_element : tie.Need-overflow_add-put_element invariant-loop decreases-loop
+add-put_element c = omega (arith, room c)
 
-put-element-requires : tie.Need-put-element-requires invariant-loop decreases-loop
-put-element-requires c κs =
+put_element-requires : tie.Need-put_element-requires invariant-loop decreases-loop
+put_element-requires c κs =
     let l = c.before in
     let j = l.before.loop.j in
     let h : j < (r l).layer.frame.elements = omega arith in
     (omega (arith, room l), (soil (r l) (is l), (((solid (r l) (is l) j h).0, waters_most (r l) (is l) j h), stands (r l) (is l) j h)))
 
-add-j : tie.Need-overflow-add-j invariant-loop decreases-loop
+add-j : tie.Need-overflow_add-j invariant-loop decreases-loop
 add-j c = omega (arith, few c.before.before.before.before)
 
 loop-less : tie.Need-loop-smaller invariant-loop decreases-loop
@@ -81,7 +81,7 @@ loop-less c = omega arith
 
 loop-again : tie.Need-loop-preserved invariant-loop decreases-loop
 loop-again c =
-    let made = c.before.before.put-element in
+    let made = c.before.before.put_element in
     let l = c.before.before.before.before.before in
     (omega arith, made.auto.1.1.1.1.1.0 ∙ l.loop.invariant.1, stored_more 9 _ (λ i. refl) _ _ l.loop.j l.loop.invariant.2 made.ensures)
 
@@ -95,22 +95,22 @@ returns c =
     let elements = l.before.before.before.before.before.before.args.r.layer.frame.elements in
     stored-all 9 _ (λ i. refl) _ _ l.loop.j elements l.loop.invariant.2 (omega arith)
 
-pub put-elements-spec : {M : Type 1} → statement M
-put-elements-spec =
+pub put_elements_spec : {M : Type 1} → statement M
+put_elements_spec =
     tie.close
     (tie.spec
     invariant-loop
     decreases-loop
     loop-holds
-    mul-put-element
-    array-read-put-element
-    mul-put-element-2
-    array-read-put-element-2
-    mul-put-element-3
-    array-read-put-element-3
-    mul-put-element-4
-    add-put-element
-    put-element-requires
+    mul-put_element
+    array-read-put_element
+    mul-put_element-2
+    array-read-put_element-2
+    mul-put_element-3
+    array-read-put_element-3
+    mul-put_element-4
+    add-put_element
+    put_element-requires
     add-j
     loop-less
     loop-again

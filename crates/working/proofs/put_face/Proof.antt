@@ -16,46 +16,46 @@ use Rattle.working.proofs.put_face.Tie as tie
 flow-requires : tie.Need-flow-requires
 flow-requires c κs = search rules
 
-flow-remainder-requires : tie.Need-flow-remainder-requires
-flow-remainder-requires c κs = search rules
+flow_remainder-requires : tie.Need-flow_remainder-requires
+flow_remainder-requires c κs = search rules
 
-signed-field-requires : tie.Need-signed-field-requires
-signed-field-requires c κs = search rules
+signed_field-requires : tie.Need-signed_field-requires
+signed_field-requires c κs = search rules
 
-mul-out : tie.Need-overflow-mul-out
+mul-out : tie.Need-overflow_mul-out
 mul-out c = search rules
 
 slice-write-out : tie.Need-slice-write-out
 slice-write-out c = search rules
 
-add-out : tie.Need-overflow-add-out
+add-out : tie.Need-overflow_add-out
 add-out c = search rules
 
-mul-out-2 : tie.Need-overflow-mul-out-2
+mul-out-2 : tie.Need-overflow_mul-out-2
 mul-out-2 c = search rules
 
 slice-write-out-2 : tie.Need-slice-write-out-2
 slice-write-out-2 c = simp length-set (omega arith)
 
-signed-field-requires-2 : tie.Need-signed-field-requires-2
-signed-field-requires-2 c κs = search rules
+signed_field-requires-2 : tie.Need-signed_field-requires-2
+signed_field-requires-2 c κs = search rules
 
-add-out-2 : tie.Need-overflow-add-out-2
+add-out-2 : tie.Need-overflow_add-out-2
 add-out-2 c = search rules
 
-mul-out-3 : tie.Need-overflow-mul-out-3
+mul-out-3 : tie.Need-overflow_mul-out-3
 mul-out-3 c = search rules
 
 slice-write-out-3 : tie.Need-slice-write-out-3
 slice-write-out-3 c = simp length-set (omega arith)
 
-signed-field-requires-3 : tie.Need-signed-field-requires-3
-signed-field-requires-3 c κs = search rules
+signed_field-requires-3 : tie.Need-signed_field-requires-3
+signed_field-requires-3 c κs = search rules
 
-add-out-3 : tie.Need-overflow-add-out-3
+add-out-3 : tie.Need-overflow_add-out-3
 add-out-3 c = search rules
 
-mul-out-4 : tie.Need-overflow-mul-out-4
+mul-out-4 : tie.Need-overflow_mul-out-4
 mul-out-4 c = search rules
 
 slice-write-out-4 : tie.Need-slice-write-out-4
@@ -67,8 +67,8 @@ same_length c = search rules
 difference-back : (s : tie.Start) → to_z w64 (of_z w64 s.args.face.difference) ≡ s.args.face.difference
 difference-back s = read_back (within_fits tt s.requires.1.0)
 
-module _ (c : tie.After-signed-field3) where
-  abbrev left : tie.After-flow-remainder
+module _ (c : tie.After-signed_field3) where
+  abbrev left : tie.After-flow_remainder
   left = c.before.before.before.before
 
   abbrev flow : tie.After-flow
@@ -82,34 +82,34 @@ module _ (c : tie.After-signed-field3) where
       read_back {z = flow.flow.result} (record { sfits = flow.flow.ok }) ∙ flow.flow.ensures.quotient ∙
       ap (λ (z : ℤ). cut (z *ℤ pos start.args.t) start.args.face.resistance) (difference-back start)
 
-  left_is : to_z w64 (of_z w64 left.flow-remainder.result) ≡ remainder_at start.args.t start.args.face
+  left_is : to_z w64 (of_z w64 left.flow_remainder.result) ≡ remainder_at start.args.t start.args.face
   left_is =
-      read_back {z = left.flow-remainder.result} (record { sfits = left.flow-remainder.ok }) ∙ left.flow-remainder.ensures.remainder_is ∙
+      read_back {z = left.flow_remainder.result} (record { sfits = left.flow_remainder.ok }) ∙ left.flow_remainder.ensures.remainder_is ∙
       ap (λ (z : ℤ). remainder (z *ℤ pos start.args.t) start.args.face.resistance) (difference-back start)
 
 returns : tie.Need-returns
 returns c =
     let s = c.before.before.before.before.before.before.before.before.before in
-    face_stored s.args.t s.args.face s.args.out.now s.args.at c.before.before.signed-field.ensures
-    c.before.signed-field2.ensures c.signed-field3.ensures (difference-back s) (flow_is c) (left_is c)
+    face_stored s.args.t s.args.face s.args.out.now s.args.at c.before.before.signed_field.ensures
+    c.before.signed_field2.ensures c.signed_field3.ensures (difference-back s) (flow_is c) (left_is c)
 
-pub put-face-spec : {M : Type 1} → statement M
-put-face-spec =
+pub put_face_spec : {M : Type 1} → statement M
+put_face_spec =
     tie.close
     (tie.spec
     flow-requires
-    flow-remainder-requires
-    signed-field-requires
+    flow_remainder-requires
+    signed_field-requires
     mul-out
     slice-write-out
     add-out
     mul-out-2
     slice-write-out-2
-    signed-field-requires-2
+    signed_field-requires-2
     add-out-2
     mul-out-3
     slice-write-out-3
-    signed-field-requires-3
+    signed_field-requires-3
     add-out-3
     mul-out-4
     slice-write-out-4

@@ -5,25 +5,25 @@ use Rattle.working.proofs.Storing.{three_stores}
 use Rattle.working.proofs.put_three.Statement.{statement}
 use Rattle.working.proofs.put_three.Tie as tie
 
-mul-out : tie.Need-overflow-mul-out
+mul-out : tie.Need-overflow_mul-out
 mul-out c = search rules
 
 slice-write-out : tie.Need-slice-write-out
 slice-write-out c = search rules
 
-add-out : tie.Need-overflow-add-out
+add-out : tie.Need-overflow_add-out
 add-out c = search rules
 
-mul-out-2 : tie.Need-overflow-mul-out-2
+mul-out-2 : tie.Need-overflow_mul-out-2
 mul-out-2 c = search rules
 
 slice-write-out-2 : tie.Need-slice-write-out-2
 slice-write-out-2 c = simp length-set (omega arith)
 
-add-out-2 : tie.Need-overflow-add-out-2
+add-out-2 : tie.Need-overflow_add-out-2
 add-out-2 c = search rules
 
-mul-out-3 : tie.Need-overflow-mul-out-3
+mul-out-3 : tie.Need-overflow_mul-out-3
 mul-out-3 c = search rules
 
 slice-write-out-3 : tie.Need-slice-write-out-3
@@ -35,8 +35,8 @@ same_length c = search rules
 returns : tie.Need-returns
 returns c = three_stores c.args.out.now c.args.at _ _ _
 
-pub put-three-spec : {M : Type 1} → statement M
-put-three-spec =
+pub put_three_spec : {M : Type 1} → statement M
+put_three_spec =
     tie.close
     (tie.spec
     mul-out

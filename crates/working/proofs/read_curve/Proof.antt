@@ -9,47 +9,47 @@ use Rattle.working.proofs.SegmentReads.{on-is, segment-spans, segment-leaves, re
 use Rattle.working.proofs.read_curve.Statement.{statement}
 use Rattle.working.proofs.read_curve.Tie as tie
 
-read-from-first-requires : tie.Need-read-from-first-requires
-read-from-first-requires c κs = search rules
+read_from_first-requires : tie.Need-read_from_first-requires
+read_from_first-requires c κs = search rules
 
-add-t9 : tie.Need-overflow-add-t9
+add-t9 : tie.Need-overflow_add-t9
 add-t9 c = search rules
 
-value-of-requires : tie.Need-value-of-requires
-value-of-requires c κs = search rules
+value_of-requires : tie.Need-value_of-requires
+value_of-requires c κs = search rules
 
-mul-interpolation-remainder : tie.Need-overflow-mul-interpolation-remainder
-mul-interpolation-remainder c = search rules
+mul-interpolation_remainder : tie.Need-overflow_mul-interpolation_remainder
+mul-interpolation_remainder c = search rules
 
-element-copy-out-interpolation-remainder : tie.Need-element-copy-out-interpolation-remainder
-element-copy-out-interpolation-remainder c = search rules
+element-copy-out-interpolation_remainder : tie.Need-element-copy-out-interpolation_remainder
+element-copy-out-interpolation_remainder c = search rules
 
-mul-interpolation-remainder-2 : tie.Need-overflow-mul-interpolation-remainder-2
-mul-interpolation-remainder-2 c = search rules
+mul-interpolation_remainder-2 : tie.Need-overflow_mul-interpolation_remainder-2
+mul-interpolation_remainder-2 c = search rules
 
-element-copy-out-interpolation-remainder-2 : tie.Need-element-copy-out-interpolation-remainder-2
-element-copy-out-interpolation-remainder-2 c = search rules
+element-copy-out-interpolation_remainder-2 : tie.Need-element-copy-out-interpolation_remainder-2
+element-copy-out-interpolation_remainder-2 c = search rules
 
-add-interpolation-remainder : tie.Need-overflow-add-interpolation-remainder
-add-interpolation-remainder c = search rules
+add-interpolation_remainder : tie.Need-overflow_add-interpolation_remainder
+add-interpolation_remainder c = search rules
 
-mul-interpolation-remainder-3 : tie.Need-overflow-mul-interpolation-remainder-3
-mul-interpolation-remainder-3 c = search rules
+mul-interpolation_remainder-3 : tie.Need-overflow_mul-interpolation_remainder-3
+mul-interpolation_remainder-3 c = search rules
 
-element-copy-out-interpolation-remainder-3 : tie.Need-element-copy-out-interpolation-remainder-3
-element-copy-out-interpolation-remainder-3 c = search rules
+element-copy-out-interpolation_remainder-3 : tie.Need-element-copy-out-interpolation_remainder-3
+element-copy-out-interpolation_remainder-3 c = search rules
 
-add-interpolation-remainder-2 : tie.Need-overflow-add-interpolation-remainder-2
-add-interpolation-remainder-2 c = search rules
+add-interpolation_remainder-2 : tie.Need-overflow_add-interpolation_remainder-2
+add-interpolation_remainder-2 c = search rules
 
-mul-interpolation-remainder-4 : tie.Need-overflow-mul-interpolation-remainder-4
-mul-interpolation-remainder-4 c = search rules
+mul-interpolation_remainder-4 : tie.Need-overflow_mul-interpolation_remainder-4
+mul-interpolation_remainder-4 c = search rules
 
-element-copy-out-interpolation-remainder-4 : tie.Need-element-copy-out-interpolation-remainder-4
-element-copy-out-interpolation-remainder-4 c = search rules
+element-copy-out-interpolation_remainder-4 : tie.Need-element-copy-out-interpolation_remainder-4
+element-copy-out-interpolation_remainder-4 c = search rules
 
 -- the segment that was found
-module _ (f : tie.After-read-from-first) where
+module _ (f : tie.After-read_from_first) where
   abbrev s : tie.Start
   s = f.before
 
@@ -57,22 +57,22 @@ module _ (f : tie.After-read-from-first) where
   curve = points s.args.count s.args.xs.now s.args.ys.now
 
   abbrev i : ℕ
-  i = f.read-from-first.result.segment
+  i = f.read_from_first.result.segment
 
-  value-is : f.read-from-first.result.value ≡ curve_at curve s.args.x
-  value-is = f.read-from-first.ensures.0.0
+  value-is : f.read_from_first.result.value ≡ curve_at curve s.args.x
+  value-is = f.read_from_first.ensures.0.0
 
-  is-on : f.read-from-first.result.value ≡ On (value_of f.read-from-first.result.value)
-  is-on = on-is _ (ap is_on value-is ∙ s.pre.1.1)
+  is_on : f.read_from_first.result.value ≡ On (value_of f.read_from_first.result.value)
+  is_on = on-is _ (ap is_on value-is ∙ s.pre.1.1)
 
   inside : i + 1 < s.args.count
-  inside = f.read-from-first.ensures.0.1
+  inside = f.read_from_first.ensures.0.1
 
   found : i ≡ segment_at curve s.args.x
-  found = f.read-from-first.ensures.1.1 _ is-on
+  found = f.read_from_first.ensures.1.1 _ is_on
 
-interpolation-remainder-requires : tie.Need-interpolation-remainder-requires
-interpolation-remainder-requires c κs =
+interpolation_remainder-requires : tie.Need-interpolation_remainder-requires
+interpolation_remainder-requires c κs =
     let f = c.before.before.before.before.before in
     let p = s f in
     let (apart, (rises, near)) =
@@ -85,28 +85,28 @@ returns c =
     let f = c.before.before.before.before.before.before in
     let p = s f in
     let value = c.before.before.before.before.before.value_of_lem.ensures in
-    let left = c.interpolation-remainder.ensures.leaves in (
+    let left = c.interpolation_remainder.ensures.leaves in (
       reading_is (curve f) p.args.x (found f) (value ∙ ap value_of (value-is f))
           (left ∙ segment-leaves p.args.count p.args.xs.now p.args.ys.now p.args.x (i f) (inside f) (found f) p.pre.1.1),
-      reading_divides p.args.xs.now p.args.ys.now p.args.x (i f) value (f.read-from-first.ensures.1.0 _ (is-on f)) left,
+      reading_divides p.args.xs.now p.args.ys.now p.args.x (i f) value (f.read_from_first.ensures.1.0 _ (is_on f)) left,
     )
 
-pub read-curve-spec : {M : Type 1} → statement M
-read-curve-spec =
+pub read_curve_spec : {M : Type 1} → statement M
+read_curve_spec =
     tie.close
     (tie.spec
-    read-from-first-requires
+    read_from_first-requires
     add-t9
-    value-of-requires
-    mul-interpolation-remainder
-    element-copy-out-interpolation-remainder
-    mul-interpolation-remainder-2
-    element-copy-out-interpolation-remainder-2
-    add-interpolation-remainder
-    mul-interpolation-remainder-3
-    element-copy-out-interpolation-remainder-3
-    add-interpolation-remainder-2
-    mul-interpolation-remainder-4
-    element-copy-out-interpolation-remainder-4
-    interpolation-remainder-requires
+    value_of-requires
+    mul-interpolation_remainder
+    element-copy-out-interpolation_remainder
+    mul-interpolation_remainder-2
+    element-copy-out-interpolation_remainder-2
+    add-interpolation_remainder
+    mul-interpolation_remainder-3
+    element-copy-out-interpolation_remainder-3
+    add-interpolation_remainder-2
+    mul-interpolation_remainder-4
+    element-copy-out-interpolation_remainder-4
+    interpolation_remainder-requires
     returns)

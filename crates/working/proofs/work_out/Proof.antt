@@ -22,14 +22,14 @@ module _ (c : tie.After-enum-told) where
   taken : Taken s.args.r s.args.t
   taken = done_taken s.args.r s.args.t done
 
-take-step-requires : tie.Need-take-step-requires
-take-step-requires c κs = search rules
+take_step-requires : tie.Need-take_step-requires
+take_step-requires c κs = search rules
 
 enum_told : tie.Need-enum-told
 enum_told c = search rules
 
-put-words-requires : tie.Need-put-words-requires
-put-words-requires c κs = let e = c.before.before in ((taken e).is, (short _ _ (taken e), (s e).requires))
+put_words-requires : tie.Need-put_words-requires
+put_words-requires c κs = let e = c.before.before in ((taken e).is, (short _ _ (taken e), (s e).requires))
 
 enum-told-2 : tie.Need-enum-told-2
 enum-told-2 c = search rules
@@ -44,7 +44,7 @@ returns : tie.Need-returns
 returns c =
     let w = c.before.before in
     let e = w.before.before.before in
-    let told = w.put-words.ensures in
+    let told = w.put_words.ensures in
     accepted (s e).args.r (s e).args.t (s e).args.out.now (done e) (ap (λ (a : Answered). a.after) (is e)) told.0 told.1
 
 returns-2 : tie.Need-returns-2
@@ -58,13 +58,13 @@ returns-3 c =
     refused s.args.r s.args.t s.args.out.now _
     (sym (ap (λ (a : Answered). a.answer) c.before.before.before.take_step.ensures.0) ∙ c.before.answer.given.1)
 
-pub work-out-spec : {M : Type 1} → statement M
-work-out-spec =
+pub work_out_spec : {M : Type 1} → statement M
+work_out_spec =
     tie.close
     (tie.spec
-    take-step-requires
+    take_step-requires
     enum_told
-    put-words-requires
+    put_words-requires
     enum-told-2
     enum-known-answer
     same_length

@@ -19,8 +19,8 @@ use Rattle.writer.proofs.write_job.Tie as tie
 abbrev lent : tie.Start → Description
 lent s =
     let a = s.args in
-    description_of a.header a.void.now a.stress.now a.conductivity-void.now a.conductivity.now a.solids.now
-    a.water.now a.table-time.now a.table_load.now
+    description_of a.header a.void.now a.stress.now a.conductivity_void.now a.conductivity.now a.solids.now
+    a.water.now a.table_time.now a.table_load.now
 
 -- from where it is accepted or refused, back to the start
 abbrev start : tie.After-accept → tie.Start
@@ -46,8 +46,8 @@ module _ (c : tie.After-enum-told) where
   is-accepted : accepted d ≡ Accepted c.enum_told.given.0.0 c.enum_told.given.0.1.0
   is-accepted = sym a.accept.ensures.0 ∙ c.enum_told.given.1
 
-job-length-requires : tie.Need-job-length-requires
-job-length-requires c κs = accepted-header (d c) (is-accepted c)
+job_length-requires : tie.Need-job_length-requires
+job_length-requires c κs = accepted-header (d c) (is-accepted c)
 
 -- what is answered, the buffer that is left, the answer's number, and both round trips
 answers : (d : Description) (buffer : List ℕ) {answer : Written} {left : List ℕ} → writing d buffer ≡ record { answer = answer; buffer = left } →
@@ -64,8 +64,8 @@ returns c =
     let buffer = (start (a t)).args.out.now in
     answers (d t) buffer (short_writes (d t) buffer (is-accepted t) (rw l.job_length_lem.ensures at c.if1.true))
 
-write-bytes-requires : tie.Need-write-bytes-requires
-write-bytes-requires c κs =
+write_bytes-requires : tie.Need-write_bytes-requires
+write_bytes-requires c κs =
     let l = c.before.before in
     let t = l.before in
     (accepted-header (d t) (is-accepted t), rw l.job_length_lem.ensures at c.before.if1.false)
@@ -89,16 +89,16 @@ returns-3 c =
     let whole = room_writes (d t) buffer (is-accepted t) (rw l.job_length_lem.ensures at w.before.before.if1.false) in
     answers (d t) buffer (whole ∙ λ i. record { answer = Length (sym l.job_length_lem.ensures i); buffer = sym w.write_bytes.ensures i })
 
-pub write-job-spec : {M : Type 1} → statement M
-write-job-spec =
+pub write_job_spec : {M : Type 1} → statement M
+write_job_spec =
     tie.close
     (tie.spec
     accept-requires
     enum-known-accepted
     enum_told
-    job-length-requires
+    job_length-requires
     returns
-    write-bytes-requires
+    write_bytes-requires
     returns-2
     same_length
     returns-3)

@@ -11,5 +11,5 @@ returns-2 : tie.Need-returns-2
 unfolding numbered_face
 returns-2 c = rw (ne_eqb _ _ c.if1.false, numbered_face)
 
-pub numbered-face-spec : {M : Type 1} → statement M
-numbered-face-spec = tie.close (tie.spec returns returns-2)
+pub numbered_face_spec : {M : Type 1} → statement M
+numbered_face_spec = tie.close (tie.spec returns returns-2)

@@ -15,13 +15,13 @@ decreases-loop n numbers₀ j₀ numbers j = n - j
 loop-holds : tie.Need-loop-init invariant-loop decreases-loop
 loop-holds c = (omega arith, sym (filled_zero _ _))
 
-mul-numbers : tie.Need-overflow-mul-numbers invariant-loop decreases-loop
+mul-numbers : tie.Need-overflow_mul-numbers invariant-loop decreases-loop
 mul-numbers c = omega arith
 
 element-write-numbers : tie.Need-element-write-numbers invariant-loop decreases-loop
 element-write-numbers c = omega arith
 
-add-j : tie.Need-overflow-add-j invariant-loop decreases-loop
+add-j : tie.Need-overflow_add-j invariant-loop decreases-loop
 add-j c = omega arith
 
 loop-less : tie.Need-loop-smaller invariant-loop decreases-loop

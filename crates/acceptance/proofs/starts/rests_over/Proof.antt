@@ -31,5 +31,5 @@ returns-2 c held =
     let h = c.before.before.before.args.header in
     rw (rests-by h.bottom held h.top_level h.bottom_level, ne_eqb h.bottom 0 c.before.if1.false)
 
-pub rests-over-spec : {M : Type 1} → statement M
-rests-over-spec = tie.close (tie.spec returns returns-2)
+pub rests_over_spec : {M : Type 1} → statement M
+rests_over_spec = tie.close (tie.spec returns returns-2)

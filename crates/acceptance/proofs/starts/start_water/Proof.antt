@@ -30,7 +30,7 @@ module _ (s : tie.Start) where
 
   -- the water of the start
   abbrev found : Option (List ℕ)
-  found = start_water soil Bs Ss s.args.may-rest s.args.start (first_places s.args.elements s.args.water.now) s.args.load
+  found = start_water soil Bs Ss s.args.may_rest s.args.start (first_places s.args.elements s.args.water.now) s.args.load
 
   abbrev water_left : Option (List ℕ) → List ℕ
   water_left water = water_started water s.args.water.now
@@ -38,8 +38,8 @@ module _ (s : tie.Start) where
   few : s.args.elements ≤ length s.args.water.now
   few = omega (arith, s.pre.0.0, s.pre.1.1.1.1.0)
 
-all-on-curve-requires : tie.Need-all-on-curve-requires
-all-on-curve-requires c κs =
+all_on_curve-requires : tie.Need-all_on_curve-requires
+all_on_curve-requires c κs =
     let p = c.before.before.requires in
     (p.0.0, ((λ j h. ((p.1.1.0 j h).0, (p.1.1.0 j h).2)), ((p.1.1.1.0.0, p.1.1.1.0.1), p.1.1.1.0.2)))
 
@@ -47,9 +47,9 @@ returns : tie.Need-returns
 returns c =
     let t = c.before.before in
     let s = t.before in
-    let start : found s ≡ all_or_none c.all-on-curve.result (first_places s.args.elements s.args.water.now) =
-    given-found (soil s) (Bs s) (Ss s) s.args.may-rest _ _ _ t.if1.true c.all-on-curve.ensures in
-    (start, (given_left _ _ (few s) c.all-on-curve.result ∙ ap (water_left s) (sym start), λ j h. (s.requires.1.1.0 j h).2))
+    let start : found s ≡ all_or_none c.all_on_curve.result (first_places s.args.elements s.args.water.now) =
+    given-found (soil s) (Bs s) (Ss s) s.args.may_rest _ _ _ t.if1.true c.all_on_curve.ensures in
+    (start, (given_left _ _ (few s) c.all_on_curve.result ∙ ap (water_left s) (sym start), λ j h. (s.requires.1.1.0 j h).2))
 
 -- start 1 over another level
 returns-2 : tie.Need-returns-2
@@ -57,39 +57,39 @@ unfolding all_or_none water_started
 returns-2 c =
     let s = c.before.before in
     let none_found : found s ≡ none =
-    unrested_found (soil s) (Bs s) (Ss s) s.args.may-rest _ _ _ c.before.if1.false (not-true s.args.may-rest c.if2.true) in
+    unrested_found (soil s) (Bs s) (Ss s) s.args.may_rest _ _ _ c.before.if1.false (not-true s.args.may_rest c.if2.true) in
     (none_found, (ap (water_left s) (sym none_found), λ j h. (s.requires.1.1.0 j h).2))
 
-resting-waters-requires : tie.Need-resting-waters-requires
-resting-waters-requires c κs =
+resting_waters-requires : tie.Need-resting_waters-requires
+resting_waters-requires c κs =
     let p = c.before.before.before.requires in
     (p.0.0, (p.0.1, (p.1.0, ((λ j h. ((p.1.1.0 j h).0, (p.1.1.0 j h).1)), ((p.1.1.1.0.0, p.1.1.1.0.1), (p.1.1.1.0.2, p.1.1.1.1.0))))))
 
 -- what the heights that are put are
-module _ (c : tie.After-resting-waters) where
+module _ (c : tie.After-resting_waters) where
   abbrev s₁ : tie.Start
   s₁ = c.before.before.before.before
 
   abbrev after : List ℕ
-  after = c.resting-waters.new.1.1.1.1.1.1.1.0
+  after = c.resting_waters.new.1.1.1.1.1.1.1.0
 
   at_rest : s₁.args.start ≡ 1
   at_rest = c.before.before.before.if1.false
 
   resting-is : found s₁ ≡ resting_from (soil s₁) s₁.args.load (Bs s₁) (Ss s₁)
-  resting-is = resting-found (soil s₁) (Bs s₁) (Ss s₁) s₁.args.may-rest _ _ _ at_rest (not-false s₁.args.may-rest c.before.before.if2.false)
+  resting-is = resting-found (soil s₁) (Bs s₁) (Ss s₁) s₁.args.may_rest _ _ _ at_rest (not-false s₁.args.may_rest c.before.before.if2.false)
 
-  rests : found s₁ ≡ all_or_none c.resting-waters.result (first_places s₁.args.elements after)
-  rests = resting-is ∙ c.resting-waters.ensures.0
+  rests : found s₁ ≡ all_or_none c.resting_waters.result (first_places s₁.args.elements after)
+  rests = resting-is ∙ c.resting_waters.ensures.0
 
-  rests-by : {All-rest : Bool} → c.resting-waters.result ≡ All-rest → found s₁ ≡ all_or_none All-rest (first_places s₁.args.elements after)
+  rests-by : {All-rest : Bool} → c.resting_waters.result ≡ All-rest → found s₁ ≡ all_or_none All-rest (first_places s₁.args.elements after)
   rests-by e = rests ∙ ap (λ (b : Bool). all_or_none b (first_places s₁.args.elements after)) e
 
 clear-requires : tie.Need-clear-requires
 clear-requires c κs =
     let r = c.before.before in
     let s = s₁ r in
-    (s.pre.0.0, resting_long _ _ (few s) _ _ _ _ _ r.resting-waters.ensures.1 ∙ s.pre.1.1.1.1.0)
+    (s.pre.0.0, resting_long _ _ (few s) _ _ _ _ _ r.resting_waters.ensures.1 ∙ s.pre.1.1.1.1.0)
 
 returns-3 : tie.Need-returns-3
 unfolding all_or_none water_started
@@ -97,10 +97,10 @@ returns-3 c =
     let t = c.before.before in
     let r = t.before in
     let s = s₁ r in
-    let none_found : found s ≡ none = rests-by r (not-true r.resting-waters.result t.if3.true) in
+    let none_found : found s ≡ none = rests-by r (not-true r.resting_waters.result t.if3.true) in
     let dry = dry_given s.args.start (all (λ w. eqb w 0) (first_places s.args.elements s.args.water.now)) (at_rest r) s.pre.1.1.1.1.1 in
     let kept : c.clear.new.1.0 ≡ s.args.water.now =
-    c.clear.ensures ∙ cleared_left _ _ (few s) _ _ _ _ (after r) r.resting-waters.ensures.1 dry in (
+    c.clear.ensures ∙ cleared_left _ _ (few s) _ _ _ _ (after r) r.resting_waters.ensures.1 dry in (
       none_found,
       (kept ∙ ap (water_left s) (sym none_found), λ j h. rw kept (s.pre.1.1.0 j h).2),
     )
@@ -110,24 +110,24 @@ unfolding all_or_none water_started
 returns-4 c =
     let r = c.before in
     let s = s₁ r in
-    let all_found : found s ≡ some (first_places s.args.elements (after r)) = rests-by r (not-false r.resting-waters.result c.if3.false) in (
+    let all_found : found s ≡ some (first_places s.args.elements (after r)) = rests-by r (not-false r.resting_waters.result c.if3.false) in (
       all_found,
       (
-        resting_left _ _ (few s) _ _ _ _ _ r.resting-waters.ensures.1
+        resting_left _ _ (few s) _ _ _ _ _ r.resting_waters.ensures.1
             (sym (resting-is r) ∙ all_found) ∙
             ap (water_left s) (sym all_found),
-        resting-most _ _ (few s) _ _ _ _ _ r.resting-waters.ensures.1 (λ j h. (s.pre.1.1.0 j h).2),
+        resting-most _ _ (few s) _ _ _ _ _ r.resting_waters.ensures.1 (λ j h. (s.pre.1.1.0 j h).2),
       ),
     )
 
-pub start-water-spec : {M : Type 1} → statement M
-start-water-spec =
+pub start_water_spec : {M : Type 1} → statement M
+start_water_spec =
     tie.close
     (tie.spec
-    all-on-curve-requires
+    all_on_curve-requires
     returns
     returns-2
-    resting-waters-requires
+    resting_waters-requires
     clear-requires
     returns-3
     returns-4)

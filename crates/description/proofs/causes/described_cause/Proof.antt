@@ -18,18 +18,18 @@ module _ (c : tie.Start) where
   -- the description that is lent
   abbrev d : Description
   d =
-      description_of c.args.header c.args.void.now c.args.stress.now c.args.conductivity-void.now c.args.conductivity.now
-      c.args.solids.now c.args.water.now c.args.table-time.now c.args.table_load.now
+      description_of c.args.header c.args.void.now c.args.stress.now c.args.conductivity_void.now c.args.conductivity.now
+      c.args.solids.now c.args.water.now c.args.table_time.now c.args.table_load.now
 
   kept : SoundHeader d.header.top d.header.bottom d.header.elements d.header.compressibility_points d.header.conductivity_points
       d.header.table_points d.header.start d.header.gravity
   kept = kept-header c.args.header c.requires
 
-check-fields-requires : tie.Need-check-fields-requires
-check-fields-requires c κs = (kept c).elements-kept.most
+check_fields-requires : tie.Need-check_fields-requires
+check_fields-requires c κs = (kept c).elements-kept.most
 
-enum-known-top-level : tie.Need-enum-known-top-level
-enum-known-top-level c = search rules
+enum-known-top_level : tie.Need-enum-known-top_level
+enum-known-top_level c = search rules
 
 enum_told : tie.Need-enum-told
 enum_told c = search rules
@@ -38,23 +38,23 @@ returns : tie.Need-returns
 unfolding chosen
 returns c =
     let f = c.before.before in
-    sym (answer_by (d f.before) (fields_tell (d f.before) (sym c.enum_told.given.1 ∙ f.check-fields.ensures _ _ _ _ _ _)) refl refl refl)
+    sym (answer_by (d f.before) (fields_tell (d f.before) (sym c.enum_told.given.1 ∙ f.check_fields.ensures _ _ _ _ _ _)) refl refl refl)
 
 -- what each test told
 module _ (c : tie.After-known-told) where
-  abbrev f₁ : tie.After-check-fields
+  abbrev f₁ : tie.After-check_fields
   f₁ = c.before.before.before
 
   abbrev s₁ : tie.Start
   s₁ = f₁.before
 
   fields_told : FieldsTell (d s₁) (Within c.before.top_level_kept.given.0.0 c.before.top_level_kept.given.0.1.0)
-  fields_told = fields_tell (d s₁) (sym c.before.top_level_kept.given.1 ∙ f₁.check-fields.ensures _ _ _ _ _ _)
+  fields_told = fields_tell (d s₁) (sym c.before.top_level_kept.given.1 ∙ f₁.check_fields.ensures _ _ _ _ _ _)
 
-compressibility-sound-requires : tie.Need-compressibility-sound-requires
-compressibility-sound-requires c κs = (kept (s₁ c)).compressibility-kept.most
+compressibility_sound-requires : tie.Need-compressibility_sound-requires
+compressibility_sound-requires c κs = (kept (s₁ c)).compressibility-kept.most
 
-module _ (c : tie.After-compressibility-sound) where
+module _ (c : tie.After-compressibility_sound) where
   abbrev e₁ : tie.After-known-told
   e₁ = c.before
 
@@ -79,12 +79,12 @@ module _ (c : tie.Else1) where
   compressibility-true : compressibility_sound (job_site (d s₂)).compressibility ≡ true
   compressibility-true = sym (compressibility-is c.before) ∙ not-false _ c.if1.false
 
-conductivity-sound-requires : tie.Need-conductivity-sound-requires
-conductivity-sound-requires c κs =
+conductivity_sound-requires : tie.Need-conductivity_sound-requires
+conductivity_sound-requires c κs =
     let k = kept (s₂ c) in
     ((k.conductivity-kept.least, k.conductivity-kept.most), k.compressibility-kept.most)
 
-module _ (c : tie.After-conductivity-sound) where
+module _ (c : tie.After-conductivity_sound) where
   abbrev e₃ : tie.Else1
   e₃ = c.before
 
@@ -110,16 +110,16 @@ module _ (c : tie.Else2) where
   conductivity-true : conductivity_sound (job_site (d s₃)).conductivity (job_site (d s₃)).compressibility ≡ true
   conductivity-true = sym (conductivity-is c.before) ∙ not-false _ c.if2.false
 
-table-sound-requires : tie.Need-table-sound-requires
-table-sound-requires c κs = (kept (s₃ c)).table_kept.most
+table_sound-requires : tie.Need-table_sound-requires
+table_sound-requires c κs = (kept (s₃ c)).table_kept.most
 
-module _ (c : tie.After-table-sound) where
+module _ (c : tie.After-table_sound) where
   abbrev e₅ : tie.Else2
   e₅ = c.before
 
-  table_is : c.table-sound.result ≡ table_sound (job_site (d (s₃ e₅))).load_table
+  table_is : c.table_sound.result ≡ table_sound (job_site (d (s₃ e₅))).load_table
   unfolding job_site
-  table_is = c.table-sound.ensures
+  table_is = c.table_sound.ensures
 
 returns-4 : tie.Need-returns-4
 unfolding chosen
@@ -139,18 +139,18 @@ returns-5 c =
     (λ i. Sound (told.1 i) (told.2 i)) ∙
     sym (answer_by (d (s₃ e)) told.0 (compressibility-true b) (conductivity-true e) (sym (table_is f) ∙ not-false _ c.if3.false))
 
-pub described-cause-spec : {M : Type 1} → statement M
-described-cause-spec =
+pub described_cause_spec : {M : Type 1} → statement M
+described_cause_spec =
     tie.close
     (tie.spec
-    check-fields-requires
-    enum-known-top-level
+    check_fields-requires
+    enum-known-top_level
     enum_told
     returns
-    compressibility-sound-requires
+    compressibility_sound-requires
     returns-2
-    conductivity-sound-requires
+    conductivity_sound-requires
     returns-3
-    table-sound-requires
+    table_sound-requires
     returns-4
     returns-5)

@@ -18,8 +18,8 @@ use Rattle.description.proofs.fields.check_fields.Tie as tie
 new-requires : tie.Need-new-requires
 new-requires c κs = search rules
 
-enum-known-top-level : tie.Need-enum-known-top-level
-enum-known-top-level c = search rules
+enum-known-top_level : tie.Need-enum-known-top_level
+enum-known-top_level c = search rules
 
 enum_told : tie.Need-enum-told
 enum_told c = search rules
@@ -43,8 +43,8 @@ top-told c = head_tells _ (sym c.before.top_level_kept.given.1 ∙ c.before.befo
 new-requires-2 : tie.Need-new-requires-2
 new-requires-2 c κs = search rules
 
-enum-known-bottom-level : tie.Need-enum-known-bottom-level
-enum-known-bottom-level c = search rules
+enum-known-bottom_level : tie.Need-enum-known-bottom_level
+enum-known-bottom_level c = search rules
 
 enum-told-2 : tie.Need-enum-told-2
 enum-told-2 c = search rules
@@ -77,17 +77,17 @@ returns-3 c void stress conductivity_void conductivity table_time table_load =
     sym (fields_answer_lem (d t.before.before.before.before void stress conductivity_void conductivity table_time table_load) (top-told t).0
     (bottom-told b).0 (clock_tells _ (sym c.enum-told4.given.1 ∙ n.new3.ensures)) refl)
 
-heights-sound-requires : tie.Need-heights-sound-requires
-heights-sound-requires c κs = search rules
+heights_sound-requires : tie.Need-heights_sound-requires
+heights_sound-requires c κs = search rules
 
 within-requires : tie.Need-within-requires
 within-requires c κs = search rules
 
-all-within-requires : tie.Need-all-within-requires
-all-within-requires c κs = search rules
+all_within-requires : tie.Need-all_within-requires
+all_within-requires c κs = search rules
 
 -- once all are tested
-module _ (c : tie.After-all-within) (void stress conductivity_void conductivity table_time table_load : List ℕ) where
+module _ (c : tie.After-all_within) (void stress conductivity_void conductivity table_time table_load : List ℕ) where
   abbrev h : tie.After-within
   h = c.before
 
@@ -122,31 +122,31 @@ returns-4 c void stress conductivity_void conductivity table_time table_load =
     let top = (top-told (t a void stress conductivity_void conductivity table_time table_load)).1 in
     let bottom = (bottom-told (b a void stress conductivity_void conductivity table_time table_load)).1 in
     (λ i. Within (top i) (bottom i)) ∙
-    told a void stress conductivity_void conductivity table_time table_load (others_by (described a void stress conductivity_void conductivity table_time table_load) a.before.before.heights-sound.ensures a.before.within.ensures a.all-within.ensures c.if1.true)
+    told a void stress conductivity_void conductivity table_time table_load (others_by (described a void stress conductivity_void conductivity table_time table_load) a.before.before.heights_sound.ensures a.before.within.ensures a.all_within.ensures c.if1.true)
 
 returns-5 : tie.Need-returns-5
 returns-5 c void stress conductivity_void conductivity table_time table_load =
     let a = c.before in
-    told a void stress conductivity_void conductivity table_time table_load (others_by (described a void stress conductivity_void conductivity table_time table_load) a.before.before.heights-sound.ensures a.before.within.ensures a.all-within.ensures c.if1.false)
+    told a void stress conductivity_void conductivity table_time table_load (others_by (described a void stress conductivity_void conductivity table_time table_load) a.before.before.heights_sound.ensures a.before.within.ensures a.all_within.ensures c.if1.false)
 
-pub check-fields-spec : {M : Type 1} → statement M
-check-fields-spec =
+pub check_fields_spec : {M : Type 1} → statement M
+check_fields_spec =
     tie.close
     (tie.spec
     new-requires
-    enum-known-top-level
+    enum-known-top_level
     enum_told
     returns
     new-requires-2
-    enum-known-bottom-level
+    enum-known-bottom_level
     enum-told-2
     returns-2
     new-requires-3
     enum-told-3
     enum-told-4
     returns-3
-    heights-sound-requires
+    heights_sound-requires
     within-requires
-    all-within-requires
+    all_within-requires
     returns-4
     returns-5)

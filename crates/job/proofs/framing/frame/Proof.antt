@@ -8,39 +8,39 @@ use Rattle.job.proofs.FramingLaws.{is_short, is_other, is_outside, is_wrong, by_
 use Rattle.job.proofs.framing.frame.Statement.{statement}
 use Rattle.job.proofs.framing.frame.Tie as tie
 
-short-or-unmarked-requires : tie.Need-short-or-unmarked-requires
-short-or-unmarked-requires c κs = search rules
+short_or_unmarked-requires : tie.Need-short_or_unmarked-requires
+short_or_unmarked-requires c κs = search rules
 
 returns : tie.Need-returns
 unfolding chosen
-returns c = rw (by_tests, ← c.before.short-or-unmarked.ensures, c.if1.true)
+returns c = rw (by_tests, ← c.before.short_or_unmarked.ensures, c.if1.true)
 
 -- what the tests passed say
 not_short : (c : tie.Else1) → is_short c.before.before.before.args.job.now ≡ false
-not_short c = sym c.before.short-or-unmarked.ensures ∙ c.if1.false
+not_short c = sym c.before.short_or_unmarked.ensures ∙ c.if1.false
 
 there : (c : tie.Else1) → header_length ≤ length c.before.before.before.args.job.now
 there c = long c.before.before.before.args.job.now (not_short c)
 
 not-other : (c : tie.Else2) → is_other c.before.before.before.before.before.args.job.now ≡ false
-not-other c = sym c.before.other-version.ensures ∙ c.if2.false
+not-other c = sym c.before.other_version.ensures ∙ c.if2.false
 
-other-version-requires : tie.Need-other-version-requires
-other-version-requires c κs = there c
+other_version-requires : tie.Need-other_version-requires
+other_version-requires c κs = there c
 
 returns-2 : tie.Need-returns-2
 unfolding chosen
 returns-2 c =
-    rw (by_tests, not_short c.before.before, ← c.before.other-version.ensures, c.if2.true)
+    rw (by_tests, not_short c.before.before, ← c.before.other_version.ensures, c.if2.true)
 
-read-header-requires : tie.Need-read-header-requires
-read-header-requires c κs = there c.before.before
+read_header-requires : tie.Need-read_header-requires
+read_header-requires c κs = there c.before.before
 
-header-outside-requires : tie.Need-header-outside-requires
-header-outside-requires c κs = there c.before.before.before
+header_outside-requires : tie.Need-header_outside-requires
+header_outside-requires c κs = there c.before.before.before
 
-tested : (c : tie.After-header-outside) → c.header_outside.result ≡ is_outside c.before.before.before.before.before.before.before.args.job.now
-tested c = rw c.before.read-header.ensures at c.header_outside.ensures
+tested : (c : tie.After-header_outside) → c.header_outside.result ≡ is_outside c.before.before.before.before.before.before.before.args.job.now
+tested c = rw c.before.read_header.ensures at c.header_outside.ensures
 
 not_outside : (c : tie.Else3) → is_outside c.before.before.before.before.before.before.before.before.args.job.now ≡ false
 not_outside c = sym (tested c.before) ∙ c.if3.false
@@ -51,12 +51,12 @@ returns-3 c =
     let passed2 = c.before.before.before in
     rw (by_tests, not_short passed2.before.before, not-other passed2, ← tested c.before, c.if3.true)
 
-wrong-length-requires : tie.Need-wrong-length-requires
-wrong-length-requires c κs =
-    rw c.before.before.read-header.ensures (kept c.before.before.before.before.before.before.before.before.args.job.now (not_outside c))
+wrong_length-requires : tie.Need-wrong_length-requires
+wrong_length-requires c κs =
+    rw c.before.before.read_header.ensures (kept c.before.before.before.before.before.before.before.before.args.job.now (not_outside c))
 
-right : (c : tie.After-wrong-length) → c.wrong-length.result ≡ is_wrong c.before.before.before.before.before.before.before.before.before.args.job.now
-right c = rw c.before.before.before.read-header.ensures at c.wrong-length.ensures
+right : (c : tie.After-wrong_length) → c.wrong_length.result ≡ is_wrong c.before.before.before.before.before.before.before.before.before.args.job.now
+right c = rw c.before.before.before.read_header.ensures at c.wrong_length.ensures
 
 returns-4 : tie.Need-returns-4
 unfolding chosen
@@ -70,19 +70,19 @@ unfolding chosen
 returns-5 c =
     let passed3 = c.before.before in
     let passed2 = passed3.before.before.before in
-    rw (by_tests, not_short passed2.before.before, not-other passed2, not_outside passed3, ← right c.before, c.if4.false, c.before.before.before.before.read-header.ensures)
+    rw (by_tests, not_short passed2.before.before, not-other passed2, not_outside passed3, ← right c.before, c.if4.false, c.before.before.before.before.read_header.ensures)
 
-pub frame-spec : {M : Type 1} → statement M
-frame-spec =
+pub frame_spec : {M : Type 1} → statement M
+frame_spec =
     tie.close
     (tie.spec
-    short-or-unmarked-requires
+    short_or_unmarked-requires
     returns
-    other-version-requires
+    other_version-requires
     returns-2
-    read-header-requires
-    header-outside-requires
+    read_header-requires
+    header_outside-requires
     returns-3
-    wrong-length-requires
+    wrong_length-requires
     returns-4
     returns-5)

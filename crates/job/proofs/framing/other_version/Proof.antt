@@ -8,5 +8,5 @@ field-requires c κs = search rules
 returns : tie.Need-returns
 returns c = rw c.field.ensures
 
-pub other-version-spec : {M : Type 1} → statement M
-other-version-spec = tie.close (tie.spec field-requires returns)
+pub other_version_spec : {M : Type 1} → statement M
+other_version_spec = tie.close (tie.spec field-requires returns)

@@ -12,5 +12,5 @@ returns c = rw (lt-ltb _ _ c.if1.true)
 returns-2 : tie.Need-returns-2
 returns-2 c = rw (le-ltb _ _ c.before.if1.false, c.marked.ensures)
 
-pub short-or-unmarked-spec : {M : Type 1} → statement M
-short-or-unmarked-spec = tie.close (tie.spec marked-requires returns returns-2)
+pub short_or_unmarked_spec : {M : Type 1} → statement M
+short_or_unmarked_spec = tie.close (tie.spec marked-requires returns returns-2)

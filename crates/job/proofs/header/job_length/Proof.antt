@@ -8,25 +8,25 @@ use Rattle.job.proofs.header.job_length.Tie as tie
 counts : (c : tie.Start) → Counted c.args.header.elements c.args.header.compressibility_points c.args.header.conductivity_points c.args.header.table_points (job_length c.args.header)
 counts c = counted c.args.header _ c.requires refl
 
-add-result : tie.Need-overflow-add-result
+add-result : tie.Need-overflow_add-result
 add-result c = omega (arith, counts c.before)
 
-add-result-2 : tie.Need-overflow-add-result-2
+add-result-2 : tie.Need-overflow_add-result-2
 add-result-2 c = omega (arith, counts c.before.before)
 
-add-result-3 : tie.Need-overflow-add-result-3
+add-result-3 : tie.Need-overflow_add-result-3
 add-result-3 c = omega (arith, counts c.before.before.before)
 
-mul-result : tie.Need-overflow-mul-result
+mul-result : tie.Need-overflow_mul-result
 mul-result c = omega (arith, counts c.before.before.before)
 
-add-result-4 : tie.Need-overflow-add-result-4
+add-result-4 : tie.Need-overflow_add-result-4
 add-result-4 c = omega (arith, counts c.before.before.before)
 
 returns : tie.Need-returns
 unfolding job_length
 returns c = refl
 
-pub job-length-spec : {M : Type 1} → statement M
-job-length-spec =
+pub job_length_spec : {M : Type 1} → statement M
+job_length_spec =
     tie.close (tie.spec add-result add-result-2 add-result-3 mul-result add-result-4 returns)

@@ -17,8 +17,8 @@ returns : tie.Need-returns
 unfolding marked
 returns c = refl
 
-pub marked-spec : {M : Type 1} → statement M
-marked-spec =
+pub marked_spec : {M : Type 1} → statement M
+marked_spec =
     tie.close
     (tie.spec
     shared-slice-read-result

@@ -6,43 +6,43 @@ use Rattle.job.proofs.header.read_header.Tie as tie
 byte-requires : tie.Need-byte-requires
 byte-requires c κs = search rules
 
-cast-t3 : tie.Need-overflow-cast-t3
+cast-t3 : tie.Need-overflow_cast-t3
 cast-t3 c = search rules
 
 byte-requires-2 : tie.Need-byte-requires-2
 byte-requires-2 c κs = search rules
 
-cast-t5 : tie.Need-overflow-cast-t5
+cast-t5 : tie.Need-overflow_cast-t5
 cast-t5 c = search rules
 
 byte-requires-3 : tie.Need-byte-requires-3
 byte-requires-3 c κs = search rules
 
-cast-t7 : tie.Need-overflow-cast-t7
+cast-t7 : tie.Need-overflow_cast-t7
 cast-t7 c = search rules
 
 byte-requires-4 : tie.Need-byte-requires-4
 byte-requires-4 c κs = search rules
 
-cast-t9 : tie.Need-overflow-cast-t9
+cast-t9 : tie.Need-overflow_cast-t9
 cast-t9 c = search rules
 
 byte-requires-5 : tie.Need-byte-requires-5
 byte-requires-5 c κs = search rules
 
-cast-t11 : tie.Need-overflow-cast-t11
+cast-t11 : tie.Need-overflow_cast-t11
 cast-t11 c = search rules
 
 byte-requires-6 : tie.Need-byte-requires-6
 byte-requires-6 c κs = search rules
 
-cast-t13 : tie.Need-overflow-cast-t13
+cast-t13 : tie.Need-overflow_cast-t13
 cast-t13 c = search rules
 
 byte-requires-7 : tie.Need-byte-requires-7
 byte-requires-7 c κs = search rules
 
-cast-t15 : tie.Need-overflow-cast-t15
+cast-t15 : tie.Need-overflow_cast-t15
 cast-t15 c = search rules
 
 field-requires : tie.Need-field-requires
@@ -77,8 +77,8 @@ returns c = λ i. record {
   budget = c.field5.ensures i;
 }
 
-pub read-header-spec : {M : Type 1} → statement M
-read-header-spec =
+pub read_header_spec : {M : Type 1} → statement M
+read_header_spec =
     tie.close
     (tie.spec
     byte-requires

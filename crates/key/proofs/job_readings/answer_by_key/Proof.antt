@@ -13,7 +13,7 @@ use Rattle.key.proofs.job_readings.answer_by_key.Statement.{statement}
 use Rattle.key.proofs.job_readings.answer_by_key.Tie as tie
 
 -- what the key returned
-module _ (k : tie.After-consolidation-key) where
+module _ (k : tie.After-consolidation_key) where
   abbrev s : tie.Start
   s = k.before.before.before.before.before.before
 
@@ -30,22 +30,22 @@ module _ (k : tie.After-consolidation-key) where
   before = s.args.res.now
 
   abbrev after : List ℕ
-  after = k.consolidation-key.last.1.0
+  after = k.consolidation_key.last.1.0
 
   abbrev number : ℕ
-  number = k.consolidation-key.result
+  number = k.consolidation_key.result
 
   number-told : number ≡ (key job before).number
-  number-told = k.consolidation-key.ensures.0
+  number-told = k.consolidation_key.ensures.0
 
   after-told : after ≡ (key job before).buffer
-  after-told = k.consolidation-key.ensures.1
+  after-told = k.consolidation_key.ensures.1
 
   both : Alike job readings answers before
   both = alike job readings answers before s.pre
 
-consolidation-key-requires : tie.Need-consolidation-key-requires
-consolidation-key-requires c κs = search rules
+consolidation_key-requires : tie.Need-consolidation_key-requires
+consolidation_key-requires c κs = search rules
 
 same_length : tie.Need-same-length
 same_length c = search rules
@@ -56,8 +56,8 @@ returns c =
     let e = (both k).refused_alike (λ z. c.if1.true (number-told k ∙ z)) in
     (number-told k ∙ number_is e, (buffer-is e, after-told k))
 
-answer-readings-requires : tie.Need-answer-readings-requires
-answer-readings-requires c κs =
+answer_readings-requires : tie.Need-answer_readings-requires
+answer_readings-requires c κs =
     let k = c.before.before.before.before.before in
     let zero = sym (number-told k) ∙ c.before.before.if1.false in
     let enough = (both k).has_room zero in
@@ -74,16 +74,16 @@ returns-2 c =
     let k = c.before.before.before.before.before.before.before.before in
     let zero = sym (number-told k) ∙ c.before.before.before.before.before.if1.false in
     let e = sym (key-answers (job k) (readings k) (answers k) (before k) (both k) zero) in
-    (number_is e, (c.before.before.answer-readings.ensures ∙ ap (λ (l : List ℕ). overlaid (answers_in l (readings k)) (answers k)) (after-told k) ∙ buffer-is e, after-told k))
+    (number_is e, (c.before.before.answer_readings.ensures ∙ ap (λ (l : List ℕ). overlaid (answers_in l (readings k)) (answers k)) (after-told k) ∙ buffer-is e, after-told k))
 
-pub answer-by-key-spec : {M : Type 1} → statement M
-answer-by-key-spec =
+pub answer_by_key_spec : {M : Type 1} → statement M
+answer_by_key_spec =
     tie.close
     (tie.spec
-    consolidation-key-requires
+    consolidation_key-requires
     same_length
     returns
-    answer-readings-requires
+    answer_readings-requires
     same-length-2
     same-length-3
     returns-2)

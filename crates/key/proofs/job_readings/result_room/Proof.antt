@@ -11,5 +11,5 @@ returns-2 : tie.Need-returns-2
 unfolding result_size
 returns-2 c = simp (le-ltb (c.before.args.answers / 5) (c.before.args.readings / 3) c.if1.false)
 
-pub result-room-spec : {M : Type 1} → statement M
-result-room-spec = tie.close (tie.spec returns returns-2)
+pub result_room_spec : {M : Type 1} → statement M
+result_room_spec = tie.close (tie.spec returns returns-2)

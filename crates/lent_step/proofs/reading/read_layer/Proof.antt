@@ -29,10 +29,10 @@ module _ (c : tie.After-burdens) where
   abbrev held : List ℕ → Held
   held l =
       let a = s.args in
-      held_of (soil_of a.counts a.void.now a.stress.now a.conductivity-void.now a.conductivity.now) a.frame.elements a.load.0 l a.solids.now a.water.now
+      held_of (soil_of a.counts a.void.now a.stress.now a.conductivity_void.now a.conductivity.now) a.frame.elements a.load.0 l a.solids.now a.water.now
 
-read-elements-requires : tie.Need-read-elements-requires
-read-elements-requires c κs =
+read_elements-requires : tie.Need-read_elements-requires
+read_elements-requires c κs =
     let b = c.before.before.before.before.before in
     let long = (s b).requires.1.1.1 in
     ((s b).requires.1.0, (subst (λ (l : List ℕ). Stands (held b l)) (sym (burden-is b)) (s b).requires.0, (long.0, long.1, refl, refl)))
@@ -41,9 +41,9 @@ returns : tie.Need-returns
 returns c =
     let b = c.before.before.before.before.before.before in
     let a = (s b).args in (
-      c.read-elements.ensures.0 ∙ ap (λ (l : List ℕ). filled a.excess.now a.frame.elements (excess_at (held b l))) (burden-is b),
-      c.read-elements.ensures.1.0,
+      c.read_elements.ensures.0 ∙ ap (λ (l : List ℕ). filled a.excess.now a.frame.elements (excess_at (held b l))) (burden-is b),
+      c.read_elements.ensures.1.0,
     )
 
-pub read-layer-spec : {M : Type 1} → statement M
-read-layer-spec = tie.close (tie.spec burdens-requires read-elements-requires returns)
+pub read_layer_spec : {M : Type 1} → statement M
+read_layer_spec = tie.close (tie.spec burdens-requires read_elements-requires returns)

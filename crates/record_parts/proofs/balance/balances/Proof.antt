@@ -40,24 +40,24 @@ module _ (c : tie.After-struct-told) where
   gone-fits : SFits w64 c.before.before.settlement.result
   gone-fits = record { sfits = c.before.before.settlement.type-inv }
 
-  top-fits : SFits w64 s.args.top-outflow.0
+  top-fits : SFits w64 s.args.top_outflow.0
   top-fits = record { sfits = c.struct_told.given.0.1 }
 
-  out-fits : SFits w64 (c.before.before.settlement.result -ℤ s.args.top-outflow.0)
+  out-fits : SFits w64 (c.before.before.settlement.result -ℤ s.args.top_outflow.0)
   out-fits =
       let within : Within gone (2 * starting_water_limits.most) = within_le (within-sub (within_pos s.args.starting) (within_pos s.args.left)) (omega arith) in
-      subst (λ (z : ℤ). SFits w64 (z -ℤ s.args.top-outflow.0)) (sym gone-is) (within_fits tt (within-sub within s.pre.1))
+      subst (λ (z : ℤ). SFits w64 (z -ℤ s.args.top_outflow.0)) (sym gone-is) (within_fits tt (within-sub within s.pre.1))
 
-sub-result : tie.Need-overflow-sub-result
-sub-result c = simp (read_back (gone-fits c), read_back {z = (s c).args.top-outflow.0} (top-fits c)) (out-fits c)
+sub-result : tie.Need-overflow_sub-result
+sub-result c = simp (read_back (gone-fits c), read_back {z = (s c).args.top_outflow.0} (top-fits c)) (out-fits c)
 
 returns : tie.Need-returns
 returns c =
     let t = c.before.before in
-    simp (read_back (gone-fits t), read_back {z = (s t).args.top-outflow.0} (top-fits t))
-    (bits_equal _ (s t).args.bottom-outflow.0 (out-fits t) (record { sfits = c.struct-told2.given.0.1 }) ∙
-    ap (λ (z : ℤ). eq_ℤ (z -ℤ (s t).args.top-outflow.0) (s t).args.bottom-outflow.0) (gone-is t) ∙
-    across (pos (s t).args.starting) (pos (s t).args.left) (s t).args.top-outflow.0 (s t).args.bottom-outflow.0)
+    simp (read_back (gone-fits t), read_back {z = (s t).args.top_outflow.0} (top-fits t))
+    (bits_equal _ (s t).args.bottom_outflow.0 (out-fits t) (record { sfits = c.struct-told2.given.0.1 }) ∙
+    ap (λ (z : ℤ). eq_ℤ (z -ℤ (s t).args.top_outflow.0) (s t).args.bottom_outflow.0) (gone-is t) ∙
+    across (pos (s t).args.starting) (pos (s t).args.left) (s t).args.top_outflow.0 (s t).args.bottom_outflow.0)
 
-pub balances-spec : {M : Type 1} → statement M
-balances-spec = tie.close (tie.spec settlement-requires sub-result returns)
+pub balances_spec : {M : Type 1} → statement M
+balances_spec = tie.close (tie.spec settlement-requires sub-result returns)

@@ -21,17 +21,17 @@ module _ (c : tie.Start) where
   gone-fits : SFits w64 (pos c.args.starting -ℤ pos c.args.left)
   gone-fits = within_fits {n = 2 * starting_water_limits.most} tt (within_le (within-sub (within_pos c.args.starting) (within_pos c.args.left)) (omega arith))
 
-cast-result : tie.Need-overflow-cast-result
+cast-result : tie.Need-overflow_cast-result
 cast-result c = search rules
 
-cast-result-2 : tie.Need-overflow-cast-result-2
+cast-result-2 : tie.Need-overflow_cast-result-2
 cast-result-2 c = search rules
 
-sub-result : tie.Need-overflow-sub-result
+sub-result : tie.Need-overflow_sub-result
 sub-result c = simp (starting_is c, left_is c) (gone-fits c)
 
 returns : tie.Need-returns
 returns c = simp (starting_is c, left_is c, read_back (gone-fits c))
 
-pub settlement-spec : {M : Type 1} → statement M
-settlement-spec = tie.close (tie.spec cast-result cast-result-2 sub-result returns)
+pub settlement_spec : {M : Type 1} → statement M
+settlement_spec = tie.close (tie.spec cast-result cast-result-2 sub-result returns)

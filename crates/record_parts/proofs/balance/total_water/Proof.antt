@@ -22,16 +22,16 @@ loop-holds : tie.Need-loop-init invariant-loop decreases-loop
 unfolding sum
 loop-holds c = (omega arith, omega arith, refl)
 
-mul-total : tie.Need-overflow-mul-total invariant-loop decreases-loop
+mul-total : tie.Need-overflow_mul-total invariant-loop decreases-loop
 mul-total c = omega arith
 
 element-copy-out-total : tie.Need-element-copy-out-total invariant-loop decreases-loop
 element-copy-out-total c = omega arith
 
-add_total : tie.Need-overflow-add-total invariant-loop decreases-loop
+add_total : tie.Need-overflow_add-total invariant-loop decreases-loop
 add_total c = let l = c.before.before in omega (arith, l.before.requires.1 l.loop.j (omega arith))
 
-add-j : tie.Need-overflow-add-j invariant-loop decreases-loop
+add-j : tie.Need-overflow_add-j invariant-loop decreases-loop
 add-j c = omega arith
 
 loop-less : tie.Need-loop-smaller invariant-loop decreases-loop
@@ -50,8 +50,8 @@ returns c =
     let s = c.before.before in
     (c.before.loop.invariant.2 ∙ ap sum (take_all c.before.loop.j (first_places s.args.elements s.args.water.now) (rw (first_length s.args.elements s.args.water.now) (omega arith))), omega arith)
 
-pub total-water-spec : {M : Type 1} → statement M
-total-water-spec =
+pub total_water_spec : {M : Type 1} → statement M
+total_water_spec =
     tie.close
     (tie.spec
     invariant-loop

@@ -32,16 +32,16 @@ module _ (c : tie.After-struct-told2) where
   difference-fits : SFits w64 (bottom -ℤ top)
   difference-fits = within_fits tt difference
 
-sub-t3 : tie.Need-overflow-sub-t3
+sub-t3 : tie.Need-overflow_sub-t3
 sub-t3 c = simp (read_back (bottom-fits c), read_back (top-fits c)) (difference-fits c)
 
-as-pressure-requires : tie.Need-as-pressure-requires
-as-pressure-requires c κs = simp (read_back (bottom-fits c), read_back (top-fits c), read_back (difference-fits c)) (difference c)
+as_pressure-requires : tie.Need-as_pressure-requires
+as_pressure-requires c κs = simp (read_back (bottom-fits c), read_back (top-fits c), read_back (difference-fits c)) (difference c)
 
 returns : tie.Need-returns
 unfolding bottom_pressure
 returns c =
-    let t = c.before in simp (read_back (bottom-fits t), read_back (top-fits t), read_back (difference-fits t)) at c.as-pressure.ensures
+    let t = c.before in simp (read_back (bottom-fits t), read_back (top-fits t), read_back (difference-fits t)) at c.as_pressure.ensures
 
-pub bottom-pressure-spec : {M : Type 1} → statement M
-bottom-pressure-spec = tie.close (tie.spec sub-t3 as-pressure-requires returns)
+pub bottom_pressure_spec : {M : Type 1} → statement M
+bottom_pressure_spec = tie.close (tie.spec sub-t3 as_pressure-requires returns)

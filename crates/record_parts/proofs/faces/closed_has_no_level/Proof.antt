@@ -23,5 +23,5 @@ returns-2 : tie.Need-returns-2
 unfolding closed_at_zero
 returns-2 c = rw c.enum-told2.given.1
 
-pub closed-has-no-level-spec : {M : Type 1} → statement M
-closed-has-no-level-spec = tie.close (tie.spec enum_told enum-told-2 returns returns-2)
+pub closed_has_no_level_spec : {M : Type 1} → statement M
+closed_has_no_level_spec = tie.close (tie.spec enum_told enum-told-2 returns returns-2)

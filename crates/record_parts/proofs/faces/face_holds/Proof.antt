@@ -22,5 +22,5 @@ returns-2 c =
     let held = t.before.before.before.before.before.args.held in
     rw face.1 (bits_equal face.0.0.0 held.0 (record { sfits = t.struct_told.given.0.1 }) (record { sfits = c.struct-told2.given.0.1 }))
 
-pub face-holds-spec : {M : Type 1} → statement M
-face-holds-spec = tie.close (tie.spec enum_told enum-known-face returns returns-2)
+pub face_holds_spec : {M : Type 1} → statement M
+face_holds_spec = tie.close (tie.spec enum_told enum-known-face returns returns-2)

@@ -17,5 +17,5 @@ returns-2 : tie.Need-returns-2
 unfolding face_number
 returns-2 c = rw c.enum-told2.given.1
 
-pub face-number-spec : {M : Type 1} → statement M
-face-number-spec = tie.close (tie.spec enum_told enum-told-2 returns returns-2)
+pub face_number_spec : {M : Type 1} → statement M
+face_number_spec = tie.close (tie.spec enum_told enum-told-2 returns returns-2)

@@ -41,8 +41,8 @@ returns c =
       c.within8.ensures,
     )
 
-pub form-sound-spec : {M : Type 1} → statement M
-form-sound-spec =
+pub form_sound_spec : {M : Type 1} → statement M
+form_sound_spec =
     tie.close
     (tie.spec
     within-requires

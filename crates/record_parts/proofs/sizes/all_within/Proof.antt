@@ -28,7 +28,7 @@ decreases-loop n kind numbers j₀ j = n - j
 loop-holds : tie.Need-loop-init invariant-loop decreases-loop
 loop-holds c = (omega arith, all_rest _ _)
 
-mul-within : tie.Need-overflow-mul-within invariant-loop decreases-loop
+mul-within : tie.Need-overflow_mul-within invariant-loop decreases-loop
 mul-within c = omega arith
 
 element-copy-out-within : tie.Need-element-copy-out-within invariant-loop decreases-loop
@@ -43,7 +43,7 @@ returns c =
     let s = l.before in
     index_fails s.args.elements (λ i. within (limits_of s.args.kind) (get_or s.args.numbers.now i 0)) l.loop.j l.loop.invariant.1 (omega arith) (sym c.before.within.ensures ∙ not-true _ c.if1.true) ∙ sym (listed _ _ _)
 
-add-j : tie.Need-overflow-add-j invariant-loop decreases-loop
+add-j : tie.Need-overflow_add-j invariant-loop decreases-loop
 add-j c = omega arith
 
 loop-less : tie.Need-loop-smaller invariant-loop decreases-loop
@@ -61,8 +61,8 @@ returns-2 c =
     let s = l.before in
     index_ends s.args.elements (λ i. within (limits_of s.args.kind) (get_or s.args.numbers.now i 0)) l.loop.j l.loop.invariant.1 (omega arith) ∙ sym (listed _ _ _)
 
-pub all-within-spec : {M : Type 1} → statement M
-all-within-spec =
+pub all_within_spec : {M : Type 1} → statement M
+all_within_spec =
     tie.close
     (tie.spec
     invariant-loop

@@ -24,6 +24,6 @@ returns-3 : tie.Need-returns-3
 unfolding answer_numbers
 returns-3 c = search rules
 
-pub answer-steps-spec : {M : Type 1} → statement M
-answer-steps-spec =
+pub answer_steps_spec : {M : Type 1} → statement M
+answer_steps_spec =
     tie.close (tie.spec enum_told enum-known-answer enum-told-2 returns returns-2 returns-3)

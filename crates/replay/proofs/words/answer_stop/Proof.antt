@@ -9,8 +9,8 @@ enum_told c = search rules
 enum-known-answer : tie.Need-enum-known-answer
 enum-known-answer c = search rules
 
-stop-number-requires : tie.Need-stop-number-requires
-stop-number-requires c κs = search rules
+stop_number-requires : tie.Need-stop_number-requires
+stop_number-requires c κs = search rules
 
 enum-told-2 : tie.Need-enum-told-2
 enum-told-2 c = search rules
@@ -27,13 +27,13 @@ returns-3 : tie.Need-returns-3
 unfolding answer_numbers
 returns-3 c = search rules
 
-pub answer-stop-spec : {M : Type 1} → statement M
-answer-stop-spec =
+pub answer_stop_spec : {M : Type 1} → statement M
+answer_stop_spec =
     tie.close
     (tie.spec
     enum_told
     enum-known-answer
-    stop-number-requires
+    stop_number-requires
     enum-told-2
     returns
     returns-2

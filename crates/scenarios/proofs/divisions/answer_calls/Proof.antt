@@ -16,40 +16,40 @@ state-requires c κs = search rules
 loop-holds : tie.Need-loop-init invariant-loop decreases-loop
 loop-holds c = search rules
 
-sub-make-call : tie.Need-overflow-sub-make-call invariant-loop decreases-loop
-sub-make-call c = search rules
+sub-make_call : tie.Need-overflow_sub-make_call invariant-loop decreases-loop
+sub-make_call c = search rules
 
-mul-make-call : tie.Need-overflow-mul-make-call invariant-loop decreases-loop
-mul-make-call c = search rules
+mul-make_call : tie.Need-overflow_mul-make_call invariant-loop decreases-loop
+mul-make_call c = search rules
 
-shared-slice-read-make-call : tie.Need-shared-slice-read-make-call invariant-loop decreases-loop
-shared-slice-read-make-call c = search rules
+shared-slice-read-make_call : tie.Need-shared-slice-read-make_call invariant-loop decreases-loop
+shared-slice-read-make_call c = search rules
 
-sub-make-call-2 : tie.Need-overflow-sub-make-call-2 invariant-loop decreases-loop
-sub-make-call-2 c = search rules
+sub-make_call-2 : tie.Need-overflow_sub-make_call-2 invariant-loop decreases-loop
+sub-make_call-2 c = search rules
 
-mul-make-call-2 : tie.Need-overflow-mul-make-call-2 invariant-loop decreases-loop
-mul-make-call-2 c = search rules
+mul-make_call-2 : tie.Need-overflow_mul-make_call-2 invariant-loop decreases-loop
+mul-make_call-2 c = search rules
 
-shared-slice-read-make-call-2 : tie.Need-shared-slice-read-make-call-2 invariant-loop decreases-loop
-shared-slice-read-make-call-2 c = search rules
+shared-slice-read-make_call-2 : tie.Need-shared-slice-read-make_call-2 invariant-loop decreases-loop
+shared-slice-read-make_call-2 c = search rules
 
-sub-make-call-3 : tie.Need-overflow-sub-make-call-3 invariant-loop decreases-loop
-sub-make-call-3 c = search rules
+sub-make_call-3 : tie.Need-overflow_sub-make_call-3 invariant-loop decreases-loop
+sub-make_call-3 c = search rules
 
-mul-make-call-3 : tie.Need-overflow-mul-make-call-3 invariant-loop decreases-loop
-mul-make-call-3 c = search rules
+mul-make_call-3 : tie.Need-overflow_mul-make_call-3 invariant-loop decreases-loop
+mul-make_call-3 c = search rules
 
-shared-slice-read-make-call-3 : tie.Need-shared-slice-read-make-call-3 invariant-loop decreases-loop
-shared-slice-read-make-call-3 c = search rules
+shared-slice-read-make_call-3 : tie.Need-shared-slice-read-make_call-3 invariant-loop decreases-loop
+shared-slice-read-make_call-3 c = search rules
 
-make-call-requires : tie.Need-make-call-requires invariant-loop decreases-loop
-make-call-requires c κs = search rules
+make_call-requires : tie.Need-make_call-requires invariant-loop decreases-loop
+make_call-requires c κs = search rules
 
 state-requires-2 : tie.Need-state-requires-2 invariant-loop decreases-loop
 state-requires-2 c κs = search rules
 
-add-end : tie.Need-overflow-add-end invariant-loop decreases-loop
+add-end : tie.Need-overflow_add-end invariant-loop decreases-loop
 add-end c = search rules
 
 loop-less : tie.Need-loop-smaller invariant-loop decreases-loop
@@ -61,24 +61,24 @@ loop-again c = search rules
 returns : tie.Need-returns invariant-loop decreases-loop
 returns c = search rules
 
-pub answer-calls-spec : {M : Type 1} → statement M
-answer-calls-spec =
+pub answer_calls_spec : {M : Type 1} → statement M
+answer_calls_spec =
     tie.close
     (tie.spec
     invariant-loop
     decreases-loop
     state-requires
     loop-holds
-    sub-make-call
-    mul-make-call
-    shared-slice-read-make-call
-    sub-make-call-2
-    mul-make-call-2
-    shared-slice-read-make-call-2
-    sub-make-call-3
-    mul-make-call-3
-    shared-slice-read-make-call-3
-    make-call-requires
+    sub-make_call
+    mul-make_call
+    shared-slice-read-make_call
+    sub-make_call-2
+    mul-make_call-2
+    shared-slice-read-make_call-2
+    sub-make_call-3
+    mul-make_call-3
+    shared-slice-read-make_call-3
+    make_call-requires
     state-requires-2
     add-end
     loop-less

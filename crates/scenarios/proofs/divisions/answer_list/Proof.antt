@@ -4,59 +4,59 @@ use mathlib.Core.Path.{refl, sym, ◌∙◌}
 use Rattle.scenarios.proofs.divisions.answer_list.Statement.{statement}
 use Rattle.scenarios.proofs.divisions.answer_list.Tie as tie
 
-slice-aggregate-write-all : tie.Need-slice-aggregate-write-all
-slice-aggregate-write-all c = search rules
+slice-aggregate-write_all : tie.Need-slice-aggregate-write_all
+slice-aggregate-write_all c = search rules
 
-write-all-requires : tie.Need-write-all-requires
-write-all-requires c κs = search rules
+write_all-requires : tie.Need-write_all-requires
+write_all-requires c κs = search rules
 
-print-decimal-requires : tie.Need-print-decimal-requires
-print-decimal-requires c κs = search rules
+print_decimal-requires : tie.Need-print_decimal-requires
+print_decimal-requires c κs = search rules
 
-answer-job-requires : tie.Need-answer-job-requires
-answer-job-requires c κs = search rules
+answer_job-requires : tie.Need-answer_job-requires
+answer_job-requires c κs = search rules
 
 returns : tie.Need-returns
 returns c = rw (eq-eqb _ 5 c.before.if1.true) refl
 
-is-record-requires : tie.Need-is-record-requires
-is-record-requires c κs = search rules
+is_record-requires : tie.Need-is_record-requires
+is_record-requires c κs = search rules
 
-slice-aggregate-write-all-2 : tie.Need-slice-aggregate-write-all-2
-slice-aggregate-write-all-2 c = search rules
+slice-aggregate-write_all-2 : tie.Need-slice-aggregate-write_all-2
+slice-aggregate-write_all-2 c = search rules
 
-write-all-requires-2 : tie.Need-write-all-requires-2
-write-all-requires-2 c κs = search rules
+write_all-requires-2 : tie.Need-write_all-requires-2
+write_all-requires-2 c κs = search rules
 
 record-requires : tie.Need-record-requires
 record-requires c κs =
     let test = c.before.before in
-    sym test.before.is-record.ensures ∙ test.if2.true
+    sym test.before.is_record.ensures ∙ test.if2.true
 
-answer-calls-requires : tie.Need-answer-calls-requires
-answer-calls-requires c κs = search rules
+answer_calls-requires : tie.Need-answer_calls-requires
+answer_calls-requires c κs = search rules
 
 returns-2 : tie.Need-returns-2
 returns-2 c =
     let test = c.before.before.before.before in
-    rw (ne_eqb _ 5 test.before.before.if1.false) (sym test.if2.true ∙ test.before.is-record.ensures)
+    rw (ne_eqb _ 5 test.before.before.if1.false) (sym test.if2.true ∙ test.before.is_record.ensures)
 
 returns-3 : tie.Need-returns-3
-returns-3 c = rw (ne_eqb _ 5 c.before.before.if1.false) (sym c.if2.false ∙ c.before.is-record.ensures)
+returns-3 c = rw (ne_eqb _ 5 c.before.before.if1.false) (sym c.if2.false ∙ c.before.is_record.ensures)
 
-pub answer-list-spec : {M : Type 1} → statement M
-answer-list-spec =
+pub answer_list_spec : {M : Type 1} → statement M
+answer_list_spec =
     tie.close
     (tie.spec
-    slice-aggregate-write-all
-    write-all-requires
-    print-decimal-requires
-    answer-job-requires
+    slice-aggregate-write_all
+    write_all-requires
+    print_decimal-requires
+    answer_job-requires
     returns
-    is-record-requires
-    slice-aggregate-write-all-2
-    write-all-requires-2
+    is_record-requires
+    slice-aggregate-write_all-2
+    write_all-requires-2
     record-requires
-    answer-calls-requires
+    answer_calls-requires
     returns-2
     returns-3)

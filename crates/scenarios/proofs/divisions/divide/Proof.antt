@@ -7,23 +7,23 @@ use Rattle.scenarios.proofs.divisions.divide.Tie as tie
 divide-requires : tie.Need-divide-requires
 divide-requires c κs = search rules
 
-entry-count-requires : tie.Need-entry-count-requires
-entry-count-requires c κs = search rules
+entry_count-requires : tie.Need-entry_count-requires
+entry_count-requires c κs = search rules
 
-slice-aggregate-write-all : tie.Need-slice-aggregate-write-all
-slice-aggregate-write-all c = search rules
+slice-aggregate-write_all : tie.Need-slice-aggregate-write_all
+slice-aggregate-write_all c = search rules
 
-write-all-requires : tie.Need-write-all-requires
-write-all-requires c κs = search rules
+write_all-requires : tie.Need-write_all-requires
+write_all-requires c κs = search rules
 
-refusal-number-requires : tie.Need-refusal-number-requires
-refusal-number-requires c κs = search rules
+refusal_number-requires : tie.Need-refusal_number-requires
+refusal_number-requires c κs = search rules
 
-write-number-requires : tie.Need-write-number-requires
-write-number-requires c κs = search rules
+write_number-requires : tie.Need-write_number-requires
+write_number-requires c κs = search rules
 
-write-number-requires-2 : tie.Need-write-number-requires-2
-write-number-requires-2 c κs = search rules
+write_number-requires-2 : tie.Need-write_number-requires-2
+write_number-requires-2 c κs = search rules
 
 kept-requires : tie.Need-kept-requires
 kept-requires c κs = search rules
@@ -31,44 +31,44 @@ kept-requires c κs = search rules
 kept-requires-2 : tie.Need-kept-requires-2
 kept-requires-2 c κs = search rules
 
-add-write-number : tie.Need-overflow-add-write-number
-add-write-number c = search rules
+add-write_number : tie.Need-overflow_add-write_number
+add-write_number c = search rules
 
-write-number-requires-3 : tie.Need-write-number-requires-3
-write-number-requires-3 c κs = search rules
+write_number-requires-3 : tie.Need-write_number-requires-3
+write_number-requires-3 c κs = search rules
 
-write-entries-requires : tie.Need-write-entries-requires
-write-entries-requires c κs =
+write_entries-requires : tie.Need-write_entries-requires
+write_entries-requires c κs =
     let counted = c.before.before.before.before.before.before.before.before.before.before.before.before in
     let divided = counted.before.divide in
     let start = counted.before.before.before.before in
-    omega (arith, counted.entry-count.ensures, few start.args.«record» start.args.t divided.result divided.ensures.1.1.1)
+    omega (arith, counted.entry_count.ensures, few start.args.«record» start.args.t divided.result divided.ensures.1.1.1)
 
-slice-aggregate-write-all-2 : tie.Need-slice-aggregate-write-all-2
-slice-aggregate-write-all-2 c = search rules
+slice-aggregate-write_all-2 : tie.Need-slice-aggregate-write_all-2
+slice-aggregate-write_all-2 c = search rules
 
-write-all-requires-2 : tie.Need-write-all-requires-2
-write-all-requires-2 c κs = search rules
+write_all-requires-2 : tie.Need-write_all-requires-2
+write_all-requires-2 c κs = search rules
 
 returns : tie.Need-returns
 returns c = search rules
 
-pub divide-spec : {M : Type 1} → statement M
-divide-spec =
+pub divide_spec : {M : Type 1} → statement M
+divide_spec =
     tie.close
     (tie.spec
     divide-requires
-    entry-count-requires
-    slice-aggregate-write-all
-    write-all-requires
-    refusal-number-requires
-    write-number-requires
-    write-number-requires-2
+    entry_count-requires
+    slice-aggregate-write_all
+    write_all-requires
+    refusal_number-requires
+    write_number-requires
+    write_number-requires-2
     kept-requires
     kept-requires-2
-    add-write-number
-    write-number-requires-3
-    write-entries-requires
-    slice-aggregate-write-all-2
-    write-all-requires-2
+    add-write_number
+    write_number-requires-3
+    write_entries-requires
+    slice-aggregate-write_all-2
+    write_all-requires-2
     returns)

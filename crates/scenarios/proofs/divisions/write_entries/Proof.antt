@@ -12,31 +12,31 @@ decreases-loop count flows remainders i₀ i = count - i
 loop-holds : tie.Need-loop-init invariant-loop decreases-loop
 loop-holds c = search rules
 
-mul-signed-field : tie.Need-overflow-mul-signed-field invariant-loop decreases-loop
-mul-signed-field c = search rules
+mul-signed_field : tie.Need-overflow_mul-signed_field invariant-loop decreases-loop
+mul-signed_field c = search rules
 
-element-copy-out-signed-field : tie.Need-element-copy-out-signed-field invariant-loop decreases-loop
-element-copy-out-signed-field c = search rules
+element-copy-out-signed_field : tie.Need-element-copy-out-signed_field invariant-loop decreases-loop
+element-copy-out-signed_field c = search rules
 
-signed-field-requires : tie.Need-signed-field-requires invariant-loop decreases-loop
-signed-field-requires c κs = search rules
+signed_field-requires : tie.Need-signed_field-requires invariant-loop decreases-loop
+signed_field-requires c κs = search rules
 
-write-number-requires : tie.Need-write-number-requires invariant-loop decreases-loop
-write-number-requires c κs = search rules
+write_number-requires : tie.Need-write_number-requires invariant-loop decreases-loop
+write_number-requires c κs = search rules
 
-mul-signed-field-2 : tie.Need-overflow-mul-signed-field-2 invariant-loop decreases-loop
-mul-signed-field-2 c = search rules
+mul-signed_field-2 : tie.Need-overflow_mul-signed_field-2 invariant-loop decreases-loop
+mul-signed_field-2 c = search rules
 
-element-copy-out-signed-field-2 : tie.Need-element-copy-out-signed-field-2 invariant-loop decreases-loop
-element-copy-out-signed-field-2 c = search rules
+element-copy-out-signed_field-2 : tie.Need-element-copy-out-signed_field-2 invariant-loop decreases-loop
+element-copy-out-signed_field-2 c = search rules
 
-signed-field-requires-2 : tie.Need-signed-field-requires-2 invariant-loop decreases-loop
-signed-field-requires-2 c κs = search rules
+signed_field-requires-2 : tie.Need-signed_field-requires-2 invariant-loop decreases-loop
+signed_field-requires-2 c κs = search rules
 
-write-number-requires-2 : tie.Need-write-number-requires-2 invariant-loop decreases-loop
-write-number-requires-2 c κs = search rules
+write_number-requires-2 : tie.Need-write_number-requires-2 invariant-loop decreases-loop
+write_number-requires-2 c κs = search rules
 
-add-i : tie.Need-overflow-add-i invariant-loop decreases-loop
+add-i : tie.Need-overflow_add-i invariant-loop decreases-loop
 add-i c = search rules
 
 loop-less : tie.Need-loop-smaller invariant-loop decreases-loop
@@ -48,21 +48,21 @@ loop-again c = search rules
 returns : tie.Need-returns invariant-loop decreases-loop
 returns c = search rules
 
-pub write-entries-spec : {M : Type 1} → statement M
-write-entries-spec =
+pub write_entries_spec : {M : Type 1} → statement M
+write_entries_spec =
     tie.close
     (tie.spec
     invariant-loop
     decreases-loop
     loop-holds
-    mul-signed-field
-    element-copy-out-signed-field
-    signed-field-requires
-    write-number-requires
-    mul-signed-field-2
-    element-copy-out-signed-field-2
-    signed-field-requires-2
-    write-number-requires-2
+    mul-signed_field
+    element-copy-out-signed_field
+    signed_field-requires
+    write_number-requires
+    mul-signed_field-2
+    element-copy-out-signed_field-2
+    signed_field-requires-2
+    write_number-requires-2
     add-i
     loop-less
     loop-again

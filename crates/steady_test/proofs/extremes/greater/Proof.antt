@@ -12,5 +12,5 @@ returns-2 c =
     let s = c.before in
     rw (simp (read_back s.ranges.a, read_back s.ranges.b) at c.if1.false) (read_back s.ranges.a)
 
-pub greater-spec : {M : Type 1} → statement M
-greater-spec = tie.close (tie.spec returns returns-2)
+pub greater_spec : {M : Type 1} → statement M
+greater_spec = tie.close (tie.spec returns returns-2)

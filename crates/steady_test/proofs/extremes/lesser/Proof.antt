@@ -12,5 +12,5 @@ returns-2 c =
     let s = c.before in
     rw (simp (read_back s.ranges.a, read_back s.ranges.b) at c.if1.false) (read_back s.ranges.b)
 
-pub lesser-spec : {M : Type 1} → statement M
-lesser-spec = tie.close (tie.spec returns returns-2)
+pub lesser_spec : {M : Type 1} → statement M
+lesser_spec = tie.close (tie.spec returns returns-2)

@@ -17,12 +17,12 @@ use Rattle.steady_test.proofs.extremes.of_flows.Statement.{statement}
 use Rattle.steady_test.proofs.extremes.of_flows.Tie as tie
 
 abbrev invariant-loop : tie.invariant-loop
-invariant-loop n top load void stress conductivity-void conductivity burden solids water points conductivity-points here₀ lowest extremes₀ j₀ here extremes j =
-    let h = held_of (soil_of (record { compressibility = points; conductivity = conductivity-points }) void stress conductivity-void conductivity) n load.0 burden solids water in
+invariant-loop n top load void stress conductivity_void conductivity burden solids water points conductivity_points here₀ lowest extremes₀ j₀ here extremes j =
+    let h = held_of (soil_of (record { compressibility = points; conductivity = conductivity_points }) void stress conductivity_void conductivity) n load.0 burden solids water in
     (j < n) × (here ≡ standing_at h j) × (extremes ≡ extremes_to (to_z w64 lowest) j (flow_over top h))
 
 abbrev decreases-loop : tie.decreases-loop
-decreases-loop n top load void stress conductivity-void conductivity burden solids water points conductivity-points here₀ lowest extremes₀ j₀ here extremes j =
+decreases-loop n top load void stress conductivity_void conductivity burden solids water points conductivity_points here₀ lowest extremes₀ j₀ here extremes j =
     n - j
 
 module _ (s : tie.Start invariant-loop decreases-loop) where
@@ -32,7 +32,7 @@ module _ (s : tie.Start invariant-loop decreases-loop) where
   abbrev h : Held
   h =
       let a = s.args in
-      held_of (soil_of a.counts a.void.now a.stress.now a.conductivity-void.now a.conductivity.now) n a.load.0 a.burden.now a.solids.now a.water.now
+      held_of (soil_of a.counts a.void.now a.stress.now a.conductivity_void.now a.conductivity.now) n a.load.0 a.burden.now a.solids.now a.water.now
 
   abbrev stands : Stands h
   stands = s.pre.1.1
@@ -49,7 +49,7 @@ element-copy-out-read-3 c = search rules
 read-requires : tie.Need-read-requires invariant-loop decreases-loop
 read-requires c κs =
     let s = c.before.before.before in
-    ((stands s).soil, (stands s).on-soil 0 s.requires.0.0)
+    ((stands s).soil, (stands s).on_soil 0 s.requires.0.0)
 
 -- the lowest element
 module _ (c : tie.After-read invariant-loop decreases-loop) where
@@ -59,8 +59,8 @@ module _ (c : tie.After-read invariant-loop decreases-loop) where
   lowest-is : c.read.result ≡ standing_at (h s₀) 0
   lowest-is = c.read.ensures
 
-bottom-flow-requires : tie.Need-bottom-flow-requires invariant-loop decreases-loop
-bottom-flow-requires c κs =
+bottom_flow-requires : tie.Need-bottom_flow-requires invariant-loop decreases-loop
+bottom_flow-requires c κs =
     let f = c.before in
     let s = s₀ f in
     let first = s.pre.0.0 in
@@ -68,20 +68,20 @@ bottom-flow-requires c κs =
     (excess_range (h s) (stands s) 0 first (lowest-is f), (s.pre.1.0.1, (lit≤ tt, resistance_range (h s) (stands s) 0 first (lowest-is f))))
 
 -- the flow up through the bottom
-lowest-flow : (b : tie.After-bottom-flow invariant-loop decreases-loop) →
+lowest_flow : (b : tie.After-bottom_flow invariant-loop decreases-loop) →
     let s = s₀ b.before.before in
-    to_z w64 (of_z w64 b.bottom-flow.result) ≡ lowest_flow s.args.bottom (h s)
+    to_z w64 (of_z w64 b.bottom_flow.result) ≡ lowest_flow s.args.bottom (h s)
 unfolding lowest_flow
-lowest-flow b =
+lowest_flow b =
     let f = b.before.before in
     let s = s₀ f in
     let first = s.pre.0.0 in
-    let told = simp (excess_back (h s) (stands s) 0 first (lowest-is f)) at b.bottom-flow.ensures in
-    read_back {z = b.bottom-flow.result} (record { sfits = b.bottom-flow.type-inv }) ∙ told ∙
+    let told = simp (excess_back (h s) (stands s) 0 first (lowest-is f)) at b.bottom_flow.ensures in
+    read_back {z = b.bottom_flow.result} (record { sfits = b.bottom_flow.type-inv }) ∙ told ∙
     ap neg_ℤ (outward-is (h s) (stands s) 0 first (lowest-is f) s.args.bottom)
 
-of-one-requires : tie.Need-of-one-requires invariant-loop decreases-loop
-of-one-requires c κs = search rules
+of_one-requires : tie.Need-of_one-requires invariant-loop decreases-loop
+of_one-requires c κs = search rules
 
 loop-holds : tie.Need-loop-init invariant-loop decreases-loop
 unfolding extremes_to
@@ -100,25 +100,25 @@ module _ (l : tie.At-loop invariant-loop decreases-loop) where
   here_is : l.loop.here ≡ standing_at (h s₁) j
   here_is = l.loop.inv.1
 
-add-loop : tie.Need-overflow-add-loop invariant-loop decreases-loop
+add-loop : tie.Need-overflow_add-loop invariant-loop decreases-loop
 add-loop c = omega arith
 
-add-next : tie.Need-overflow-add-next invariant-loop decreases-loop
+add-next : tie.Need-overflow_add-next invariant-loop decreases-loop
 add-next c = omega arith
 
-mul-read : tie.Need-overflow-mul-read invariant-loop decreases-loop
+mul-read : tie.Need-overflow_mul-read invariant-loop decreases-loop
 mul-read c = omega arith
 
 element-copy-out-read-4 : tie.Need-element-copy-out-read-4 invariant-loop decreases-loop
 element-copy-out-read-4 c = omega arith
 
-mul-read-2 : tie.Need-overflow-mul-read-2 invariant-loop decreases-loop
+mul-read-2 : tie.Need-overflow_mul-read-2 invariant-loop decreases-loop
 mul-read-2 c = omega arith
 
 element-copy-out-read-5 : tie.Need-element-copy-out-read-5 invariant-loop decreases-loop
 element-copy-out-read-5 c = omega arith
 
-mul-read-3 : tie.Need-overflow-mul-read-3 invariant-loop decreases-loop
+mul-read-3 : tie.Need-overflow_mul-read-3 invariant-loop decreases-loop
 mul-read-3 c = omega arith
 
 element-copy-out-read-6 : tie.Need-element-copy-out-read-6 invariant-loop decreases-loop
@@ -128,7 +128,7 @@ read-requires-2 : tie.Need-read-requires-2 invariant-loop decreases-loop
 read-requires-2 c κs =
     let l = c.before.before.before.before in
     let s = s₁ l in
-    ((stands s).soil, (stands s).on-soil (j l + 1) (omega arith))
+    ((stands s).soil, (stands s).on_soil (j l + 1) (omega arith))
 
 -- the element above is read
 module _ (c : tie.After-read2 invariant-loop decreases-loop) where
@@ -144,14 +144,14 @@ module _ (c : tie.After-read2 invariant-loop decreases-loop) where
   above-is : c.read2.result ≡ standing_at (h s₂) (j l₂ + 1)
   above-is = c.read2.ensures
 
-sub-difference : tie.Need-overflow-sub-difference invariant-loop decreases-loop
+sub-difference : tie.Need-overflow_sub-difference invariant-loop decreases-loop
 sub-difference c =
     let r = c.before.before.before.before in
     let s = s₂ r in
     simp (excess_back (h s) (stands s) (j (l₂ r)) (omega arith) (here_is (l₂ r)), excess_back (h s) (stands s) (j (l₂ r) + 1) (omega arith) (above-is r))
     (apart_fits (h s) (stands s) (j (l₂ r)) (omega arith) (here_is (l₂ r)) (above-is r))
 
-add-resistance : tie.Need-overflow-add-resistance invariant-loop decreases-loop
+add-resistance : tie.Need-overflow_add-resistance invariant-loop decreases-loop
 add-resistance c =
     let r = c.before.before.before.before.before.before in
     let s = s₂ r in
@@ -169,8 +169,8 @@ flow-requires c κs =
     )
     (apart (h s) (stands s) (j (l₂ r)) k (here_is (l₂ r)) (above-is r), (lit≤ tt, sum_range (h s) (stands s) (j (l₂ r)) k (here_is (l₂ r)) (above-is r)))
 
-with-flow-requires : tie.Need-with-flow-requires invariant-loop decreases-loop
-with-flow-requires c κs = search rules
+with_flow-requires : tie.Need-with_flow-requires invariant-loop decreases-loop
+with_flow-requires c κs = search rules
 
 loop-less : tie.Need-loop-smaller invariant-loop decreases-loop
 loop-less c = omega arith
@@ -188,7 +188,7 @@ loop-again c =
       read_back (apart_fits (h s) (stands s) (j l) k (here_is l) (above-is r)),
     ) at f.flow.ensures.quotient in
     let flow = told ∙ flow_is (h s) (stands s) (j l) k (here_is l) (above-is r) s.args.top in
-    let range = simp (read_back {z = f.flow.result} (record { sfits = f.flow.type-inv })) at c.with-flow.ensures in (
+    let range = simp (read_back {z = f.flow.result} (record { sfits = f.flow.type-inv })) at c.with_flow.ensures in (
       k,
       above-is r,
       range ∙ (λ i. with_flow (l.loop.inv.2 i) (flow i)) ∙ sym (extremes_more _ _ (j l)),
@@ -202,8 +202,8 @@ outward-requires c κs =
     simp (excess_back (h s) (stands s) (j l) k (here_is l))
     (excess_range (h s) (stands s) (j l) k (here_is l), (s.pre.1.0.0, (lit≤ tt, resistance_range (h s) (stands s) (j l) k (here_is l))))
 
-with-flow-requires-2 : tie.Need-with-flow-requires-2 invariant-loop decreases-loop
-with-flow-requires-2 c κs = search rules
+with_flow-requires-2 : tie.Need-with_flow-requires-2 invariant-loop decreases-loop
+with_flow-requires-2 c κs = search rules
 
 returns : tie.Need-returns invariant-loop decreases-loop
 returns c =
@@ -214,12 +214,12 @@ returns c =
     let e : j l + 1 ≡ n s = omega arith in
     let told = simp (excess_back (h s) (stands s) (j l) k (here_is l)) at o.outward.ensures.0 in
     let flow = told ∙ outward-is (h s) (stands s) (j l) k (here_is l) s.args.top ∙ sym (flow_out s.args.top (h s) (j l) e) in
-    let range = simp (read_back {z = o.outward.result} (record { sfits = o.outward.type-inv })) at c.with-flow2.ensures in
+    let range = simp (read_back {z = o.outward.result} (record { sfits = o.outward.type-inv })) at c.with_flow2.ensures in
     range ∙ (λ i. with_flow (l.loop.invariant.2 i) (flow i)) ∙ sym (extremes_more _ _ (j l)) ∙
-    λ i. extremes_to (lowest-flow l.before.before i) (e i) (flow_over s.args.top (h s))
+    λ i. extremes_to (lowest_flow l.before.before i) (e i) (flow_over s.args.top (h s))
 
-pub of-flows-spec : {M : Type 1} → statement M
-of-flows-spec =
+pub of_flows_spec : {M : Type 1} → statement M
+of_flows_spec =
     tie.close
     (tie.spec
     invariant-loop
@@ -228,8 +228,8 @@ of-flows-spec =
     element-copy-out-read-2
     element-copy-out-read-3
     read-requires
-    bottom-flow-requires
-    of-one-requires
+    bottom_flow-requires
+    of_one-requires
     loop-holds
     add-loop
     add-next
@@ -243,9 +243,9 @@ of-flows-spec =
     sub-difference
     add-resistance
     flow-requires
-    with-flow-requires
+    with_flow-requires
     loop-less
     loop-again
     outward-requires
-    with-flow-requires-2
+    with_flow-requires-2
     returns)

@@ -22,5 +22,5 @@ returns c =
       greatest = (read_back {z = c.greater.result} (record { sfits = c.greater.type-inv }) ∙ (simp (greatest, flow) at c.greater.ensures)) i;
     }
 
-pub with-flow-spec : {M : Type 1} → statement M
-with-flow-spec = tie.close (tie.spec lesser-requires greater-requires returns)
+pub with_flow_spec : {M : Type 1} → statement M
+with_flow_spec = tie.close (tie.spec lesser-requires greater-requires returns)

@@ -17,7 +17,7 @@ use Rattle.steady_test.proofs.standing.read.Statement.{statement}
 use Rattle.steady_test.proofs.standing.read.Tie as tie
 
 module _ (c : tie.Start) where
-  abbrev soil : SoilSound c.args.skeleton.points c.args.void.now c.args.stress.now c.args.conductivity-points c.args.conductivity-void.now c.args.conductivity.now
+  abbrev soil : SoilSound c.args.skeleton.points c.args.void.now c.args.stress.now c.args.conductivity_points c.args.conductivity_void.now c.args.conductivity.now
   soil = c.requires.0
 
   abbrev on : OnSoil c.args.skeleton.points c.args.void.now c.args.stress.now c.args.load.0 c.args.burden c.args.solids c.args.water
@@ -29,38 +29,38 @@ module _ (c : tie.Start) where
   load-within : Within c.args.load.0 stress_limits.most
   load-within = let b = on.load_between in omega (intervals, one_sided c.args.load.0)
 
-effective-stress-requires : tie.Need-effective-stress-requires
-effective-stress-requires c κs =
+effective_stress-requires : tie.Need-effective_stress-requires
+effective_stress-requires c κs =
     (((on c).solids_positive, most c), (((soil c).compressibility_few, (soil c).compressibility_many), (soil c).compressibility_is_sound))
 
-void-ratio-requires : tie.Need-void-ratio-requires
-void-ratio-requires c κs = let s = c.before in ((on s).solids_positive, most s)
+void_ratio-requires : tie.Need-void_ratio-requires
+void_ratio-requires c κs = let s = c.before in ((on s).solids_positive, most s)
 
 read-requires : tie.Need-read-requires
 read-requires c κs = let s = c.before.before in (((soil s).conductivity_few, (soil s).conductivity_many), conductivity_smooth _ _ _ _ (soil s).conductivity_is_sound)
 
-value-of-requires : tie.Need-value-of-requires
-value-of-requires c κs = search rules
+value_of-requires : tie.Need-value_of-requires
+value_of-requires c κs = search rules
 
 -- the values read
-stress-is : (c : tie.After-value-of) → let s = c.before.before.before.before in
+stress-is : (c : tie.After-value_of) → let s = c.before.before.before.before in
     c.value_of_lem.result ≡ value_of (effective_stress (skeleton_of (points s.args.skeleton.points s.args.void.now s.args.stress.now)) s.args.solids s.args.water)
-stress-is c = c.value_of_lem.ensures ∙ ap value_of c.before.before.before.effective-stress.ensures.0.0
+stress-is c = c.value_of_lem.ensures ∙ ap value_of c.before.before.before.effective_stress.ensures.0.0
 
-excess-pressure-requires : tie.Need-excess-pressure-requires
-excess-pressure-requires c κs =
+excess_pressure-requires : tie.Need-excess_pressure-requires
+excess_pressure-requires c κs =
     let s = c.before.before.before.before in
     (load-within s, ((on s).burden-most, rw (stress-is c) (stress_most _ _ _ _ _ _ (soil s) _ _ _ _ (on s))))
 
-value-of-requires-2 : tie.Need-value-of-requires-2
-value-of-requires-2 c κs = search rules
+value_of-requires-2 : tie.Need-value_of-requires-2
+value_of-requires-2 c κs = search rules
 
-conductivity-is : (c : tie.After-value-of2) → let s = c.before.before.before.before.before.before in
-    c.value-of2.result ≡ value_of (hydraulic_conductivity (points s.args.conductivity-points s.args.conductivity-void.now s.args.conductivity.now) s.args.solids s.args.water)
+conductivity-is : (c : tie.After-value_of2) → let s = c.before.before.before.before.before.before in
+    c.value_of2.result ≡ value_of (hydraulic_conductivity (points s.args.conductivity_points s.args.conductivity_void.now s.args.conductivity.now) s.args.solids s.args.water)
 unfolding hydraulic_conductivity
 conductivity-is c =
-    let e = c.before.before.before.before.void-ratio.ensures in
-    c.value-of2.ensures ∙ ap value_of (c.before.before.before.read.ensures.0.0 ∙ ap (curve_at (points _ _ _)) e)
+    let e = c.before.before.before.before.void_ratio.ensures in
+    c.value_of2.ensures ∙ ap value_of (c.before.before.before.read.ensures.0.0 ∙ ap (curve_at (points _ _ _)) e)
 
 resistance-requires : tie.Need-resistance-requires
 resistance-requires c κs =
@@ -73,9 +73,9 @@ returns c =
     let r = c.before in
     let e = r.before.before in
     let s = e.before.before.before.before.before in
-    let told = read_back {z = e.excess-pressure.result.0} (record { sfits = c.struct_told.given.0.1 }) in
+    let told = read_back {z = e.excess_pressure.result.0} (record { sfits = c.struct_told.given.0.1 }) in
     λ i. record {
-      excess = (told ∙ ap (λ (p : Pressure). p.0) e.excess-pressure.ensures ∙
+      excess = (told ∙ ap (λ (p : Pressure). p.0) e.excess_pressure.ensures ∙
           ap (λ (σ : ℕ). s.args.load.0 +ℤ pos s.args.burden -ℤ pos σ) (stress-is e.before)) i;
       resistance = (r.resistance.ensures ∙ ap (ceil (4_905 * (s.args.solids + s.args.water))) (conductivity-is r.before)) i;
     }
@@ -84,11 +84,11 @@ pub read_spec : {M : Type 1} → statement M
 read_spec =
     tie.close
     (tie.spec
-    effective-stress-requires
-    void-ratio-requires
+    effective_stress-requires
+    void_ratio-requires
     read-requires
-    value-of-requires
-    excess-pressure-requires
-    value-of-requires-2
+    value_of-requires
+    excess_pressure-requires
+    value_of-requires-2
     resistance-requires
     returns)

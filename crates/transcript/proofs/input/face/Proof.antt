@@ -13,18 +13,18 @@ returns : tie.Need-returns
 unfolding face_in
 returns c = simp (eq-eqb c.before.args.kind 0 c.if1.true, face_in)
 
-signed-number-requires : tie.Need-signed-number-requires
-signed-number-requires c κs = search rules
+signed_number-requires : tie.Need-signed_number-requires
+signed_number-requires c κs = search rules
 
 returns-2 : tie.Need-returns-2
 unfolding face_in
 returns-2 c =
     simp (
-      read_back {z = c.signed-number.result} (record { sfits = c.signed-number.type-inv }),
+      read_back {z = c.signed_number.result} (record { sfits = c.signed_number.type-inv }),
       ne_eqb c.before.before.args.kind 0 c.before.if1.false,
       face_in,
     )
-    (ap (λ (z : ℤ). Drained (pressure z)) c.signed-number.ensures)
+    (ap (λ (z : ℤ). Drained (pressure z)) c.signed_number.ensures)
 
-pub face-spec : {M : Type 1} → statement M
-face-spec = tie.close (tie.spec returns signed-number-requires returns-2)
+pub face_spec : {M : Type 1} → statement M
+face_spec = tie.close (tie.spec returns signed_number-requires returns-2)

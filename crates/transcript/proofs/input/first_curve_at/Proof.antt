@@ -8,15 +8,15 @@ use Rattle.transcript.proofs.input.first_curve_at.Tie as tie
 field-requires : tie.Need-field-requires
 field-requires c κs = omega (arith, fitting _ c.before.requires)
 
-mul-result : tie.Need-overflow-mul-result
+mul-result : tie.Need-overflow_mul-result
 mul-result c = omega (arith, fitting _ c.before.before.requires)
 
-add-result : tie.Need-overflow-add-result
+add-result : tie.Need-overflow_add-result
 add-result c = omega (arith, fitting _ c.before.before.requires)
 
 returns : tie.Need-returns
 unfolding first_curve_at
 returns c = search rules
 
-pub first-curve-at-spec : {M : Type 1} → statement M
-first-curve-at-spec = tie.close (tie.spec field-requires mul-result add-result returns)
+pub first_curve_at_spec : {M : Type 1} → statement M
+first_curve_at_spec = tie.close (tie.spec field-requires mul-result add-result returns)

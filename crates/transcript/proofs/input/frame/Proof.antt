@@ -31,11 +31,11 @@ field-requires-6 c κs = search rules
 field-requires-7 : tie.Need-field-requires-7
 field-requires-7 c κs = search rules
 
-signed-field-requires : tie.Need-signed-field-requires
-signed-field-requires c κs = search rules
+signed_field-requires : tie.Need-signed_field-requires
+signed_field-requires c κs = search rules
 
-signed-field-requires-2 : tie.Need-signed-field-requires-2
-signed-field-requires-2 c κs = search rules
+signed_field-requires-2 : tie.Need-signed_field-requires-2
+signed_field-requires-2 c κs = search rules
 
 field-requires-8 : tie.Need-field-requires-8
 field-requires-8 c κs = search rules
@@ -64,14 +64,14 @@ returns c =
       elements.field5.ensures,
       points.field6.ensures,
       gravity.field7.ensures,
-      top_level_kept.signed-field.ensures,
-      bottom_level_kept.signed-field2.ensures,
+      top_level_kept.signed_field.ensures,
+      bottom_level_kept.signed_field2.ensures,
       c.field8.ensures,
       back,
     )
 
-pub frame-spec : {M : Type 1} → statement M
-frame-spec =
+pub frame_spec : {M : Type 1} → statement M
+frame_spec =
     tie.close
     (tie.spec
     field-requires
@@ -83,7 +83,7 @@ frame-spec =
     field-requires-5
     field-requires-6
     field-requires-7
-    signed-field-requires
-    signed-field-requires-2
+    signed_field-requires
+    signed_field-requires-2
     field-requires-8
     returns)

@@ -12,23 +12,23 @@ field-requires c κs = omega (arith, fitting _ c.before.requires)
 field-requires-2 : tie.Need-field-requires-2
 field-requires-2 c κs = omega (arith, fitting _ c.before.before.requires)
 
-table-at-requires : tie.Need-table-at-requires
-table-at-requires c κs = search rules
+table_at-requires : tie.Need-table_at-requires
+table_at-requires c κs = search rules
 
-firsts-128-requires : tie.Need-firsts-128-requires
-firsts-128-requires c κs = omega (arith, fitting _ c.before.before.before.before.requires)
+firsts_128-requires : tie.Need-firsts_128-requires
+firsts_128-requires c κs = omega (arith, fitting _ c.before.before.before.before.requires)
 
-firsts-128-requires-2 : tie.Need-firsts-128-requires-2
-firsts-128-requires-2 c κs = omega (arith, fitting _ c.before.before.before.before.before.requires)
+firsts_128-requires-2 : tie.Need-firsts_128-requires-2
+firsts_128-requires-2 c κs = omega (arith, fitting _ c.before.before.before.before.before.requires)
 
-firsts-64-requires : tie.Need-firsts-64-requires
-firsts-64-requires c κs = omega (arith, fitting _ c.before.before.before.before.before.before.requires)
+firsts_64-requires : tie.Need-firsts_64-requires
+firsts_64-requires c κs = omega (arith, fitting _ c.before.before.before.before.before.before.requires)
 
-add-firsts-64 : tie.Need-overflow-add-firsts-64
-add-firsts-64 c = omega (arith, fitting _ c.before.before.before.before.before.before.before.requires)
+add-firsts_64 : tie.Need-overflow_add-firsts_64
+add-firsts_64 c = omega (arith, fitting _ c.before.before.before.before.before.before.before.requires)
 
-firsts-64-requires-2 : tie.Need-firsts-64-requires-2
-firsts-64-requires-2 c κs = omega (arith, fitting _ c.before.before.before.before.before.before.before.requires)
+firsts_64-requires-2 : tie.Need-firsts_64-requires-2
+firsts_64-requires-2 c κs = omega (arith, fitting _ c.before.before.before.before.before.before.before.requires)
 
 frame-requires : tie.Need-frame-requires
 frame-requires c κs = (fitting _ c.before.before.before.before.before.before.before.before.requires).fields
@@ -50,27 +50,27 @@ returns c =
     simp (
       frame.frame.ensures,
       c.progress.ensures,
-      solids.firsts-128.ensures,
-      water.firsts-1282.ensures,
-      time.firsts-64.ensures,
-      load.firsts-642.ensures,
+      solids.firsts_128.ensures,
+      water.firsts_1282.ensures,
+      time.firsts_64.ensures,
+      load.firsts_642.ensures,
       at.table_at_lem.ensures,
       elements.field.ensures,
       points.field2.ensures,
     )
 
-pub layer-spec : {M : Type 1} → statement M
-layer-spec =
+pub layer_spec : {M : Type 1} → statement M
+layer_spec =
     tie.close
     (tie.spec
     field-requires
     field-requires-2
-    table-at-requires
-    firsts-128-requires
-    firsts-128-requires-2
-    firsts-64-requires
-    add-firsts-64
-    firsts-64-requires-2
+    table_at-requires
+    firsts_128-requires
+    firsts_128-requires-2
+    firsts_64-requires
+    add-firsts_64
+    firsts_64-requires-2
     frame-requires
     progress-requires
     returns)

@@ -13,5 +13,5 @@ returns : tie.Need-returns
 unfolding record_in
 returns c = rw (c.before.soil.ensures, c.layer.ensures)
 
-pub record-spec : {M : Type 1} → statement M
-record-spec = tie.close (tie.spec soil-requires layer-requires returns)
+pub record_spec : {M : Type 1} → statement M
+record_spec = tie.close (tie.spec soil-requires layer-requires returns)

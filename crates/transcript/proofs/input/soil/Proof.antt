@@ -12,29 +12,29 @@ field-requires c κs = omega (arith, fitting _ c.before.requires)
 field-requires-2 : tie.Need-field-requires-2
 field-requires-2 c κs = omega (arith, fitting _ c.before.before.requires)
 
-first-curve-at-requires : tie.Need-first-curve-at-requires
-first-curve-at-requires c κs = search rules
+first_curve_at-requires : tie.Need-first_curve_at-requires
+first_curve_at-requires c κs = search rules
 
-second-curve-at-requires : tie.Need-second-curve-at-requires
-second-curve-at-requires c κs = search rules
+second_curve_at-requires : tie.Need-second_curve_at-requires
+second_curve_at-requires c κs = search rules
 
-firsts-64-requires : tie.Need-firsts-64-requires
-firsts-64-requires c κs = omega (arith, fitting _ c.before.before.before.before.before.requires)
+firsts_64-requires : tie.Need-firsts_64-requires
+firsts_64-requires c κs = omega (arith, fitting _ c.before.before.before.before.before.requires)
 
-add-firsts-64 : tie.Need-overflow-add-firsts-64
-add-firsts-64 c = omega (arith, fitting _ c.before.before.before.before.before.before.requires)
+add-firsts_64 : tie.Need-overflow_add-firsts_64
+add-firsts_64 c = omega (arith, fitting _ c.before.before.before.before.before.before.requires)
 
-firsts-64-requires-2 : tie.Need-firsts-64-requires-2
-firsts-64-requires-2 c κs = omega (arith, fitting _ c.before.before.before.before.before.before.requires)
+firsts_64-requires-2 : tie.Need-firsts_64-requires-2
+firsts_64-requires-2 c κs = omega (arith, fitting _ c.before.before.before.before.before.before.requires)
 
-firsts-64-requires-3 : tie.Need-firsts-64-requires-3
-firsts-64-requires-3 c κs = omega (arith, fitting _ c.before.before.before.before.before.before.before.requires)
+firsts_64-requires-3 : tie.Need-firsts_64-requires-3
+firsts_64-requires-3 c κs = omega (arith, fitting _ c.before.before.before.before.before.before.before.requires)
 
-add-firsts-64-2 : tie.Need-overflow-add-firsts-64-2
-add-firsts-64-2 c = omega (arith, fitting _ c.before.before.before.before.before.before.before.before.requires)
+add-firsts_64-2 : tie.Need-overflow_add-firsts_64-2
+add-firsts_64-2 c = omega (arith, fitting _ c.before.before.before.before.before.before.before.before.requires)
 
-firsts-64-requires-4 : tie.Need-firsts-64-requires-4
-firsts-64-requires-4 c κs = omega (arith, fitting _ c.before.before.before.before.before.before.before.before.requires)
+firsts_64-requires-4 : tie.Need-firsts_64-requires-4
+firsts_64-requires-4 c κs = omega (arith, fitting _ c.before.before.before.before.before.before.before.before.requires)
 
 field-requires-3 : tie.Need-field-requires-3
 field-requires-3 c κs = omega (arith, fitting _ c.before.before.before.before.before.before.before.before.before.requires)
@@ -55,32 +55,32 @@ returns c =
     let second-count = first_at.before in
     let first_count = second-count.before in
     simp (
-      first.firsts-64.ensures,
-      second.firsts-642.ensures,
-      third.firsts-643.ensures,
-      fourth.firsts-644.ensures,
-      first_at.first-curve-at.ensures,
-      second_at.second-curve-at.ensures,
+      first.firsts_64.ensures,
+      second.firsts_642.ensures,
+      third.firsts_643.ensures,
+      fourth.firsts_644.ensures,
+      first_at.first_curve_at.ensures,
+      second_at.second_curve_at.ensures,
       first_count.field.ensures,
       second-count.field2.ensures,
       compressibility.field3.ensures,
       c.field4.ensures,
     )
 
-pub soil-spec : {M : Type 1} → statement M
-soil-spec =
+pub soil_spec : {M : Type 1} → statement M
+soil_spec =
     tie.close
     (tie.spec
     field-requires
     field-requires-2
-    first-curve-at-requires
-    second-curve-at-requires
-    firsts-64-requires
-    add-firsts-64
-    firsts-64-requires-2
-    firsts-64-requires-3
-    add-firsts-64-2
-    firsts-64-requires-4
+    first_curve_at-requires
+    second_curve_at-requires
+    firsts_64-requires
+    add-firsts_64
+    firsts_64-requires-2
+    firsts_64-requires-3
+    add-firsts_64-2
+    firsts_64-requires-4
     field-requires-3
     field-requires-4
     returns)

@@ -6,20 +6,20 @@ use borrow.Author.Rules.{rules}
 use Rattle.transcript.proofs.lines.put_amounts.Statement.{statement}
 use Rattle.transcript.proofs.lines.put_amounts.Tie as tie
 
-put-signed-number-requires : tie.Need-put-signed-number-requires
-put-signed-number-requires c κs = search rules
+put_signed_number-requires : tie.Need-put_signed_number-requires
+put_signed_number-requires c κs = search rules
 
-put-number-requires : tie.Need-put-number-requires
-put-number-requires c κs = search rules
+put_number-requires : tie.Need-put_number-requires
+put_number-requires c κs = search rules
 
-put-signed-number-requires-2 : tie.Need-put-signed-number-requires-2
-put-signed-number-requires-2 c κs = search rules
+put_signed_number-requires-2 : tie.Need-put_signed_number-requires-2
+put_signed_number-requires-2 c κs = search rules
 
-put-signed-number-requires-3 : tie.Need-put-signed-number-requires-3
-put-signed-number-requires-3 c κs = search rules
+put_signed_number-requires-3 : tie.Need-put_signed_number-requires-3
+put_signed_number-requires-3 c κs = search rules
 
-put-number-requires-2 : tie.Need-put-number-requires-2
-put-number-requires-2 c κs = search rules
+put_number-requires-2 : tie.Need-put_number-requires-2
+put_number-requires-2 c κs = search rules
 
 same_length : tie.Need-same-length
 same_length c = search rules
@@ -36,19 +36,19 @@ returns c =
     let loads = read_back {z = of.load.0} (record { sfits = load.before.struct_told.given.0.1 }) in
     let tops = read_back {z = of.top_outflow.0} (record { sfits = top.before.struct-told2.given.0.1 }) in
     let bottoms = read_back {z = of.bottom_outflow.0} (record { sfits = bottom.before.struct-told3.given.0.1 }) in
-    let two = put_put (simp loads at load.put-signed-number.ensures.0) clock.put-number.ensures.0 in
-    let three = put_put two (simp tops at top.put-signed-number2.ensures.0) in
-    let four = put_put three (simp bottoms at bottom.put-signed-number3.ensures.0) in
-    (put_put four start.put-number2.ensures.0, omega arith)
+    let two = put_put (simp loads at load.put_signed_number.ensures.0) clock.put_number.ensures.0 in
+    let three = put_put two (simp tops at top.put_signed_number2.ensures.0) in
+    let four = put_put three (simp bottoms at bottom.put_signed_number3.ensures.0) in
+    (put_put four start.put_number2.ensures.0, omega arith)
 
-pub put-amounts-spec : {M : Type 1} → statement M
-put-amounts-spec =
+pub put_amounts_spec : {M : Type 1} → statement M
+put_amounts_spec =
     tie.close
     (tie.spec
-    put-signed-number-requires
-    put-number-requires
-    put-signed-number-requires-2
-    put-signed-number-requires-3
-    put-number-requires-2
+    put_signed_number-requires
+    put_number-requires
+    put_signed_number-requires-2
+    put_signed_number-requires-3
+    put_number-requires-2
     same_length
     returns)

@@ -9,20 +9,20 @@ use Rattle.transcript.proofs.lines.put_face.Tie as tie
 enum_told : tie.Need-enum-told
 enum_told c = search rules
 
-put-number-requires : tie.Need-put-number-requires
-put-number-requires c κs = search rules
+put_number-requires : tie.Need-put_number-requires
+put_number-requires c κs = search rules
 
-put-number-requires-2 : tie.Need-put-number-requires-2
-put-number-requires-2 c κs = search rules
+put_number-requires-2 : tie.Need-put_number-requires-2
+put_number-requires-2 c κs = search rules
 
 enum-known-face : tie.Need-enum-known-face
 enum-known-face c = search rules
 
-put-number-requires-3 : tie.Need-put-number-requires-3
-put-number-requires-3 c κs = search rules
+put_number-requires-3 : tie.Need-put_number-requires-3
+put_number-requires-3 c κs = search rules
 
-put-signed-number-requires : tie.Need-put-signed-number-requires
-put-signed-number-requires c κs = search rules
+put_signed_number-requires : tie.Need-put_signed_number-requires
+put_signed_number-requires c κs = search rules
 
 same_length : tie.Need-same-length
 same_length c = search rules
@@ -32,8 +32,8 @@ unfolding face_text
 returns c =
     let second = c.before.before in
     let first = second.before.before.before.before in (
-      rw first.before.before.enum_told.given.1 (put_put first.put-number.ensures.0 second.put-number2.ensures.0),
-      omega (arith, first.put-number.ensures.1, second.put-number2.ensures.1),
+      rw first.before.before.enum_told.given.1 (put_put first.put_number.ensures.0 second.put_number2.ensures.0),
+      omega (arith, first.put_number.ensures.1, second.put_number2.ensures.1),
     )
 
 same-length-2 : tie.Need-same-length-2
@@ -46,20 +46,20 @@ returns-2 c =
     let first = second.before.before.before.before.before in
     let known = first.before.before.before.face.given in
     let back = read_back {z = known.0.0.0} (record { sfits = second.before.struct_told.given.0.1 }) in (
-      rw known.1 (put_put first.put-number3.ensures.0 (simp back at second.put-signed-number.ensures.0)),
-      omega (arith, first.put-number3.ensures.1, second.put-signed-number.ensures.1),
+      rw known.1 (put_put first.put_number3.ensures.0 (simp back at second.put_signed_number.ensures.0)),
+      omega (arith, first.put_number3.ensures.1, second.put_signed_number.ensures.1),
     )
 
-pub put-face-spec : {M : Type 1} → statement M
-put-face-spec =
+pub put_face_spec : {M : Type 1} → statement M
+put_face_spec =
     tie.close
     (tie.spec
     enum_told
-    put-number-requires
-    put-number-requires-2
+    put_number-requires
+    put_number-requires-2
     enum-known-face
-    put-number-requires-3
-    put-signed-number-requires
+    put_number-requires-3
+    put_signed_number-requires
     same_length
     returns
     same-length-2

@@ -5,11 +5,11 @@ use borrow.Author.Rules.{rules}
 use Rattle.transcript.proofs.lines.put_state.Statement.{statement}
 use Rattle.transcript.proofs.lines.put_state.Tie as tie
 
-put-amounts-requires : tie.Need-put-amounts-requires
-put-amounts-requires c κs = search rules
+put_amounts-requires : tie.Need-put_amounts-requires
+put_amounts-requires c κs = search rules
 
-put-elements-requires : tie.Need-put-elements-requires
-put-elements-requires c κs = search rules
+put_elements-requires : tie.Need-put_elements-requires
+put_elements-requires c κs = search rules
 
 same_length : tie.Need-same-length
 same_length c = search rules
@@ -19,10 +19,10 @@ unfolding state_text
 returns c =
     let elements = c.before.before in
     let amounts = elements.before.before.before.before.before.before in (
-      put_put amounts.put-amounts.ensures.0 elements.put-elements.ensures.0,
-      omega (arith, amounts.put-amounts.ensures.1, elements.put-elements.ensures.1),
+      put_put amounts.put_amounts.ensures.0 elements.put_elements.ensures.0,
+      omega (arith, amounts.put_amounts.ensures.1, elements.put_elements.ensures.1),
     )
 
-pub put-state-spec : {M : Type 1} → statement M
-put-state-spec =
-    tie.close (tie.spec put-amounts-requires put-elements-requires same_length returns)
+pub put_state_spec : {M : Type 1} → statement M
+put_state_spec =
+    tie.close (tie.spec put_amounts-requires put_elements-requires same_length returns)

@@ -19,19 +19,19 @@ loop-holds : tie.Need-loop-init invariant-loop decreases-loop
 loop-holds c =
     let s = c.before.before in (omega arith, refl, stored_none s.args.words.now s.args.out.now)
 
-mul-put-word : tie.Need-overflow-mul-put-word invariant-loop decreases-loop
-mul-put-word c = omega arith
+mul-put_word : tie.Need-overflow_mul-put_word invariant-loop decreases-loop
+mul-put_word c = omega arith
 
-mul-put-word-2 : tie.Need-overflow-mul-put-word-2 invariant-loop decreases-loop
-mul-put-word-2 c = omega arith
+mul-put_word-2 : tie.Need-overflow_mul-put_word-2 invariant-loop decreases-loop
+mul-put_word-2 c = omega arith
 
-shared-slice-read-put-word : tie.Need-shared-slice-read-put-word invariant-loop decreases-loop
-shared-slice-read-put-word c = omega arith
+shared-slice-read-put_word : tie.Need-shared-slice-read-put_word invariant-loop decreases-loop
+shared-slice-read-put_word c = omega arith
 
-put-word-requires : tie.Need-put-word-requires invariant-loop decreases-loop
-put-word-requires c κs = omega (arith, c.before.before.before.loop.invariant.1)
+put_word-requires : tie.Need-put_word-requires invariant-loop decreases-loop
+put_word-requires c κs = omega (arith, c.before.before.before.loop.invariant.1)
 
-add-i : tie.Need-overflow-add-i invariant-loop decreases-loop
+add-i : tie.Need-overflow_add-i invariant-loop decreases-loop
 add-i c = omega arith
 
 loop-less : tie.Need-loop-smaller invariant-loop decreases-loop
@@ -56,17 +56,17 @@ returns c =
     let l = c.before.loop in
     stored-all s.args.words.now s.args.out.now l.i l.out l.invariant.2 (omega arith) s.requires
 
-pub put-words-spec : {M : Type 1} → statement M
-put-words-spec =
+pub put_words_spec : {M : Type 1} → statement M
+put_words_spec =
     tie.close
     (tie.spec
     invariant-loop
     decreases-loop
     loop-holds
-    mul-put-word
-    mul-put-word-2
-    shared-slice-read-put-word
-    put-word-requires
+    mul-put_word
+    mul-put_word-2
+    shared-slice-read-put_word
+    put_word-requires
     add-i
     loop-less
     loop-again

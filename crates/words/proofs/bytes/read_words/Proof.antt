@@ -21,19 +21,19 @@ decreases-loop bytes words₀ i₀ words i = length words₀ - i
 loop-holds : tie.Need-loop-init invariant-loop decreases-loop
 loop-holds c = (omega arith, sym (filled_zero _ _), refl)
 
-mul-word-at : tie.Need-overflow-mul-word-at invariant-loop decreases-loop
-mul-word-at c = omega arith
+mul-word_at : tie.Need-overflow_mul-word_at invariant-loop decreases-loop
+mul-word_at c = omega arith
 
-word-at-requires : tie.Need-word-at-requires invariant-loop decreases-loop
-word-at-requires c κs = search rules
+word_at-requires : tie.Need-word_at-requires invariant-loop decreases-loop
+word_at-requires c κs = search rules
 
-mul_words : tie.Need-overflow-mul-words invariant-loop decreases-loop
+mul_words : tie.Need-overflow_mul-words invariant-loop decreases-loop
 mul_words c = omega arith
 
-slice-write-words : tie.Need-slice-write-words invariant-loop decreases-loop
-slice-write-words c = omega arith
+slice-write_words : tie.Need-slice-write_words invariant-loop decreases-loop
+slice-write_words c = omega arith
 
-add-i : tie.Need-overflow-add-i invariant-loop decreases-loop
+add-i : tie.Need-overflow_add-i invariant-loop decreases-loop
 add-i c = omega arith
 
 loop-less : tie.Need-loop-smaller invariant-loop decreases-loop
@@ -57,17 +57,17 @@ returns c =
     let words = c.before.before.before.before.args.words.now in
     filled_done _ _ _ (length words) _ c.before.loop.invariant.1 (omega arith) ∙ filled-all words (length words) _ (omega arith)
 
-pub read-words-spec : {M : Type 1} → statement M
-read-words-spec =
+pub read_words_spec : {M : Type 1} → statement M
+read_words_spec =
     tie.close
     (tie.spec
     invariant-loop
     decreases-loop
     loop-holds
-    mul-word-at
-    word-at-requires
+    mul-word_at
+    word_at-requires
     mul_words
-    slice-write-words
+    slice-write_words
     add-i
     loop-less
     loop-again

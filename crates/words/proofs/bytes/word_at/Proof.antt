@@ -7,7 +7,7 @@ use Rattle.words.proofs.bytes.word_at.Tie as tie
 returns : tie.Need-returns
 returns c = sym (field_past _ _ c.if1.true)
 
-sub-left : tie.Need-overflow-sub-left
+sub-left : tie.Need-overflow_sub-left
 sub-left c = search rules
 
 field-requires : tie.Need-field-requires
@@ -22,6 +22,6 @@ field-requires-2 c κs = search rules
 returns-3 : tie.Need-returns-3
 returns-3 c = search rules
 
-pub word-at-spec : {M : Type 1} → statement M
-word-at-spec =
+pub word_at_spec : {M : Type 1} → statement M
+word_at_spec =
     tie.close (tie.spec returns sub-left field-requires returns-2 field-requires-2 returns-3)

@@ -7,14 +7,14 @@ use Rattle.writer.specs.Writing.{pair_bytes}
 use Rattle.writer.proofs.bytes.put_pair.Statement.{statement}
 use Rattle.writer.proofs.bytes.put_pair.Tie as tie
 
-put-word-requires : tie.Need-put-word-requires
-put-word-requires c κs = search rules
+put_word-requires : tie.Need-put_word-requires
+put_word-requires c κs = search rules
 
-add-put-word : tie.Need-overflow-add-put-word
-add-put-word c = search rules
+add-put_word : tie.Need-overflow_add-put_word
+add-put_word c = search rules
 
-put-word-requires-2 : tie.Need-put-word-requires-2
-put-word-requires-2 c κs = search rules
+put_word-requires-2 : tie.Need-put_word-requires-2
+put_word-requires-2 c κs = search rules
 
 same_length : tie.Need-same-length
 same_length c = search rules
@@ -25,8 +25,8 @@ returns c =
     let w₂ = c.before.before in
     let w₁ = w₂.before.before.before.before in
     let s = w₁.before.before.before in
-    sets_then s.args.out.now s.args.at (word s.args.first) (word s.args.second) w₁.put_word.ensures refl w₂.put-word2.ensures
+    sets_then s.args.out.now s.args.at (word s.args.first) (word s.args.second) w₁.put_word.ensures refl w₂.put_word2.ensures
 
-pub put-pair-spec : {M : Type 1} → statement M
-put-pair-spec =
-    tie.close (tie.spec put-word-requires add-put-word put-word-requires-2 same_length returns)
+pub put_pair_spec : {M : Type 1} → statement M
+put_pair_spec =
+    tie.close (tie.spec put_word-requires add-put_word put_word-requires-2 same_length returns)

@@ -17,32 +17,32 @@ decreases-loop out₀ at count firsts seconds i₀ out i = count - i
 loop-holds : tie.Need-loop-init invariant-loop decreases-loop
 loop-holds c = (omega arith, rw (pairs_none _ _))
 
-mul-put-pair : tie.Need-overflow-mul-put-pair invariant-loop decreases-loop
-mul-put-pair c = omega arith
+mul-put_pair : tie.Need-overflow_mul-put_pair invariant-loop decreases-loop
+mul-put_pair c = omega arith
 
-add-put-pair : tie.Need-overflow-add-put-pair invariant-loop decreases-loop
-add-put-pair c = omega arith
+add-put_pair : tie.Need-overflow_add-put_pair invariant-loop decreases-loop
+add-put_pair c = omega arith
 
-mul-put-pair-2 : tie.Need-overflow-mul-put-pair-2 invariant-loop decreases-loop
-mul-put-pair-2 c = omega arith
+mul-put_pair-2 : tie.Need-overflow_mul-put_pair-2 invariant-loop decreases-loop
+mul-put_pair-2 c = omega arith
 
-shared-slice-read-put-pair : tie.Need-shared-slice-read-put-pair invariant-loop decreases-loop
-shared-slice-read-put-pair c = omega arith
+shared-slice-read-put_pair : tie.Need-shared-slice-read-put_pair invariant-loop decreases-loop
+shared-slice-read-put_pair c = omega arith
 
-mul-put-pair-3 : tie.Need-overflow-mul-put-pair-3 invariant-loop decreases-loop
-mul-put-pair-3 c = omega arith
+mul-put_pair-3 : tie.Need-overflow_mul-put_pair-3 invariant-loop decreases-loop
+mul-put_pair-3 c = omega arith
 
-shared-slice-read-put-pair-2 : tie.Need-shared-slice-read-put-pair-2 invariant-loop decreases-loop
-shared-slice-read-put-pair-2 c = omega arith
+shared-slice-read-put_pair-2 : tie.Need-shared-slice-read-put_pair-2 invariant-loop decreases-loop
+shared-slice-read-put_pair-2 c = omega arith
 
 -- as much room as before the loop
 room : (c : tie.At-loop invariant-loop decreases-loop) → length c.loop.out ≡ length c.before.before.before.before.args.out.now
 room c = ap length c.loop.invariant.1 ∙ simp length-sets
 
-put-pair-requires : tie.Need-put-pair-requires invariant-loop decreases-loop
-put-pair-requires c κs = let l = c.before.before.before.before in omega (arith, room l)
+put_pair-requires : tie.Need-put_pair-requires invariant-loop decreases-loop
+put_pair-requires c κs = let l = c.before.before.before.before in omega (arith, room l)
 
-add-i : tie.Need-overflow-add-i invariant-loop decreases-loop
+add-i : tie.Need-overflow_add-i invariant-loop decreases-loop
 add-i c = omega arith
 
 loop-less : tie.Need-loop-smaller invariant-loop decreases-loop
@@ -53,7 +53,7 @@ loop-again c =
     let w = c.before.before in
     let l = w.before.before.before.before.before in
     let s = l.before.before.before.before in
-    (omega arith, pairs_stored s.args.firsts.now s.args.seconds.now s.args.out.now s.args.at l.loop.i l.loop.invariant.1 w.put-pair.ensures)
+    (omega arith, pairs_stored s.args.firsts.now s.args.seconds.now s.args.out.now s.args.at l.loop.i l.loop.invariant.1 w.put_pair.ensures)
 
 same_length : tie.Need-same-length invariant-loop decreases-loop
 same_length c = room c.before
@@ -65,20 +65,20 @@ returns c =
     let done : l.loop.i ≡ s.args.count = omega arith in
     l.loop.invariant.1 ∙ ap (λ (n : ℕ). sets s.args.out.now s.args.at (pairs_bytes n s.args.firsts.now s.args.seconds.now)) done
 
-pub put-pairs-spec : {M : Type 1} → statement M
-put-pairs-spec =
+pub put_pairs_spec : {M : Type 1} → statement M
+put_pairs_spec =
     tie.close
     (tie.spec
     invariant-loop
     decreases-loop
     loop-holds
-    mul-put-pair
-    add-put-pair
-    mul-put-pair-2
-    shared-slice-read-put-pair
-    mul-put-pair-3
-    shared-slice-read-put-pair-2
-    put-pair-requires
+    mul-put_pair
+    add-put_pair
+    mul-put_pair-2
+    shared-slice-read-put_pair
+    mul-put_pair-3
+    shared-slice-read-put_pair-2
+    put_pair-requires
     add-i
     loop-less
     loop-again

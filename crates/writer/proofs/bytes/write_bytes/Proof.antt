@@ -16,49 +16,49 @@ counts s = counted s.args.header _ s.requires.0 refl
 abbrev lent : tie.Start → Description
 lent s =
     let a = s.args in
-    description_of a.header a.void.now a.stress.now a.conductivity-void.now a.conductivity.now a.solids.now
-    a.water.now a.table-time.now a.table_load.now
+    description_of a.header a.void.now a.stress.now a.conductivity_void.now a.conductivity.now a.solids.now
+    a.water.now a.table_time.now a.table_load.now
 
-mul-compressibility-at : tie.Need-overflow-mul-compressibility-at
-mul-compressibility-at c = omega (arith, counts c.before)
+mul-compressibility_at : tie.Need-overflow_mul-compressibility_at
+mul-compressibility_at c = omega (arith, counts c.before)
 
-add-compressibility-at : tie.Need-overflow-add-compressibility-at
-add-compressibility-at c = omega (arith, counts c.before)
+add-compressibility_at : tie.Need-overflow_add-compressibility_at
+add-compressibility_at c = omega (arith, counts c.before)
 
-mul-conductivity-at : tie.Need-overflow-mul-conductivity-at
-mul-conductivity-at c = omega (arith, counts c.before)
+mul-conductivity_at : tie.Need-overflow_mul-conductivity_at
+mul-conductivity_at c = omega (arith, counts c.before)
 
-add-conductivity-at : tie.Need-overflow-add-conductivity-at
-add-conductivity-at c = omega (arith, counts c.before)
+add-conductivity_at : tie.Need-overflow_add-conductivity_at
+add-conductivity_at c = omega (arith, counts c.before)
 
-mul-table-at : tie.Need-overflow-mul-table-at
-mul-table-at c = omega (arith, counts c.before)
+mul-table_at : tie.Need-overflow_mul-table_at
+mul-table_at c = omega (arith, counts c.before)
 
-add-table-at : tie.Need-overflow-add-table-at
-add-table-at c = omega (arith, counts c.before)
+add-table_at : tie.Need-overflow_add-table_at
+add-table_at c = omega (arith, counts c.before)
 
-write-header-requires : tie.Need-write-header-requires
-write-header-requires c κs = let s = c.before.before in omega (arith, counts s)
+write_header-requires : tie.Need-write_header-requires
+write_header-requires c κs = let s = c.before.before in omega (arith, counts s)
 
-put-pairs-requires : tie.Need-put-pairs-requires
-put-pairs-requires c κs =
+put_pairs-requires : tie.Need-put_pairs-requires
+put_pairs-requires c κs =
     let h = counts c.before.before.before.before.before.before.before.before in
-    (omega (arith, h, c.before.put-pairs-arg2.given.0), omega (arith, h, c.put-pairs-arg3.given.0), omega (arith, h))
+    (omega (arith, h, c.before.put_pairs-arg2.given.0), omega (arith, h, c.put_pairs-arg3.given.0), omega (arith, h))
 
-put-pairs-requires-2 : tie.Need-put-pairs-requires-2
-put-pairs-requires-2 c κs =
+put_pairs-requires-2 : tie.Need-put_pairs-requires-2
+put_pairs-requires-2 c κs =
     let h = counts c.before.before.before.before.before.before.before.before.before.before.before.before.before.before in
-    (omega (arith, h, c.before.put-pairs-arg5.given.0), omega (arith, h, c.put-pairs-arg6.given.0), omega (arith, h))
+    (omega (arith, h, c.before.put_pairs-arg5.given.0), omega (arith, h, c.put_pairs-arg6.given.0), omega (arith, h))
 
-put-pairs-requires-3 : tie.Need-put-pairs-requires-3
-put-pairs-requires-3 c κs =
+put_pairs-requires-3 : tie.Need-put_pairs-requires-3
+put_pairs-requires-3 c κs =
     let h = counts c.before.before.before.before.before.before.before.before.before.before.before.before.before.before.before.before.before.before.before.before in
-    (omega (arith, h, c.before.put-pairs-arg8.given.0), omega (arith, h, c.put-pairs-arg9.given.0), omega (arith, h))
+    (omega (arith, h, c.before.put_pairs-arg8.given.0), omega (arith, h, c.put_pairs-arg9.given.0), omega (arith, h))
 
-put-pairs-requires-4 : tie.Need-put-pairs-requires-4
-put-pairs-requires-4 c κs =
+put_pairs-requires-4 : tie.Need-put_pairs-requires-4
+put_pairs-requires-4 c κs =
     let h = counts c.before.before.before.before.before.before.before.before.before.before.before.before.before.before.before.before.before.before.before.before.before.before.before.before.before.before in
-    (omega (arith, h, c.before.put-pairs-arg11.given.0), omega (arith, h, c.put-pairs-arg12.given.0), omega (arith, h))
+    (omega (arith, h, c.before.put_pairs-arg11.given.0), omega (arith, h, c.put_pairs-arg12.given.0), omega (arith, h))
 
 same_length : tie.Need-same-length
 same_length c = search rules
@@ -71,23 +71,23 @@ returns c =
     let p₁ = p₂.before.before.before.before.before.before in
     let w = p₁.before.before.before.before.before.before in
     let s = w.before.before.before in
-    job_stored (lent s) s.args.out.now w.write-header.ensures p₁.put-pairs.ensures p₂.put-pairs2.ensures
-    p₃.put-pairs3.ensures p₄.put-pairs4.ensures s.requires.1
+    job_stored (lent s) s.args.out.now w.write_header.ensures p₁.put_pairs.ensures p₂.put_pairs2.ensures
+    p₃.put_pairs3.ensures p₄.put_pairs4.ensures s.requires.1
 
-pub write-bytes-spec : {M : Type 1} → statement M
-write-bytes-spec =
+pub write_bytes_spec : {M : Type 1} → statement M
+write_bytes_spec =
     tie.close
     (tie.spec
-    mul-compressibility-at
-    add-compressibility-at
-    mul-conductivity-at
-    add-conductivity-at
-    mul-table-at
-    add-table-at
-    write-header-requires
-    put-pairs-requires
-    put-pairs-requires-2
-    put-pairs-requires-3
-    put-pairs-requires-4
+    mul-compressibility_at
+    add-compressibility_at
+    mul-conductivity_at
+    add-conductivity_at
+    mul-table_at
+    add-table_at
+    write_header-requires
+    put_pairs-requires
+    put_pairs-requires-2
+    put_pairs-requires-3
+    put_pairs-requires-4
     same_length
     returns)

@@ -10,20 +10,20 @@ use Rattle.writer.specs.Writing.{before_levels, header_bytes}
 use Rattle.writer.proofs.bytes.write_header.Statement.{statement}
 use Rattle.writer.proofs.bytes.write_header.Tie as tie
 
-write-start-requires : tie.Need-write-start-requires
-write-start-requires c κs = search rules
+write_start-requires : tie.Need-write_start-requires
+write_start-requires c κs = search rules
 
-put-word-requires : tie.Need-put-word-requires
-put-word-requires c κs = search rules
+put_word-requires : tie.Need-put_word-requires
+put_word-requires c κs = search rules
 
-put-word-requires-2 : tie.Need-put-word-requires-2
-put-word-requires-2 c κs = search rules
+put_word-requires-2 : tie.Need-put_word-requires-2
+put_word-requires-2 c κs = search rules
 
-put-word-requires-3 : tie.Need-put-word-requires-3
-put-word-requires-3 c κs = search rules
+put_word-requires-3 : tie.Need-put_word-requires-3
+put_word-requires-3 c κs = search rules
 
-put-word-requires-4 : tie.Need-put-word-requires-4
-put-word-requires-4 c κs = search rules
+put_word-requires-4 : tie.Need-put_word-requires-4
+put_word-requires-4 c κs = search rules
 
 same_length : tie.Need-same-length
 same_length c = search rules
@@ -56,19 +56,19 @@ returns c =
     sets_then l 0 (ended s) (word h.budget)
     (sets_then l 0 (bottom s) (word h.end)
     (sets_then l 0 (top s) (word h.bottom_level)
-    (sets_then l 0 (before_levels h) (word h.top_level) w.write-start.ensures refl w₁.put_word.ensures) refl
-    w₂.put-word2.ensures) refl
-    w₃.put-word3.ensures) refl
-    w₄.put-word4.ensures
+    (sets_then l 0 (before_levels h) (word h.top_level) w.write_start.ensures refl w₁.put_word.ensures) refl
+    w₂.put_word2.ensures) refl
+    w₃.put_word3.ensures) refl
+    w₄.put_word4.ensures
 
-pub write-header-spec : {M : Type 1} → statement M
-write-header-spec =
+pub write_header_spec : {M : Type 1} → statement M
+write_header_spec =
     tie.close
     (tie.spec
-    write-start-requires
-    put-word-requires
-    put-word-requires-2
-    put-word-requires-3
-    put-word-requires-4
+    write_start-requires
+    put_word-requires
+    put_word-requires-2
+    put_word-requires-3
+    put_word-requires-4
     same_length
     returns)

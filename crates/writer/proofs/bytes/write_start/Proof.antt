@@ -21,55 +21,55 @@ slice-write-out-4 c = simp length-set (omega arith)
 slice-write-out-5 : tie.Need-slice-write-out-5
 slice-write-out-5 c = simp length-set (omega arith)
 
-cast-out : tie.Need-overflow-cast-out
+cast-out : tie.Need-overflow_cast-out
 cast-out c = search rules
 
 slice-write-out-6 : tie.Need-slice-write-out-6
 slice-write-out-6 c = simp length-set (omega arith)
 
-cast-out-2 : tie.Need-overflow-cast-out-2
+cast-out-2 : tie.Need-overflow_cast-out-2
 cast-out-2 c = search rules
 
 slice-write-out-7 : tie.Need-slice-write-out-7
 slice-write-out-7 c = simp length-set (omega arith)
 
-cast-out-3 : tie.Need-overflow-cast-out-3
+cast-out-3 : tie.Need-overflow_cast-out-3
 cast-out-3 c = search rules
 
 slice-write-out-8 : tie.Need-slice-write-out-8
 slice-write-out-8 c = simp length-set (omega arith)
 
-cast-out-4 : tie.Need-overflow-cast-out-4
+cast-out-4 : tie.Need-overflow_cast-out-4
 cast-out-4 c = search rules
 
 slice-write-out-9 : tie.Need-slice-write-out-9
 slice-write-out-9 c = simp length-set (omega arith)
 
-cast-out-5 : tie.Need-overflow-cast-out-5
+cast-out-5 : tie.Need-overflow_cast-out-5
 cast-out-5 c = search rules
 
 slice-write-out-10 : tie.Need-slice-write-out-10
 slice-write-out-10 c = simp length-set (omega arith)
 
-cast-out-6 : tie.Need-overflow-cast-out-6
+cast-out-6 : tie.Need-overflow_cast-out-6
 cast-out-6 c = search rules
 
 slice-write-out-11 : tie.Need-slice-write-out-11
 slice-write-out-11 c = simp length-set (omega arith)
 
-cast-out-7 : tie.Need-overflow-cast-out-7
+cast-out-7 : tie.Need-overflow_cast-out-7
 cast-out-7 c = search rules
 
 slice-write-out-12 : tie.Need-slice-write-out-12
 slice-write-out-12 c = simp length-set (omega arith)
 
-cast-out-8 : tie.Need-overflow-cast-out-8
+cast-out-8 : tie.Need-overflow_cast-out-8
 cast-out-8 c = search rules
 
 slice-write-out-13 : tie.Need-slice-write-out-13
 slice-write-out-13 c = simp length-set (omega arith)
 
-cast-out-9 : tie.Need-overflow-cast-out-9
+cast-out-9 : tie.Need-overflow_cast-out-9
 cast-out-9 c = search rules
 
 slice-write-out-14 : tie.Need-slice-write-out-14
@@ -88,8 +88,8 @@ returns : tie.Need-returns
 unfolding bytes
 returns c = refl
 
-pub write-start-spec : {M : Type 1} → statement M
-write-start-spec =
+pub write_start_spec : {M : Type 1} → statement M
+write_start_spec =
     tie.close
     (tie.spec
     slice-write-out

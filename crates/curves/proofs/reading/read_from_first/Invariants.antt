@@ -1,0 +1,17 @@
+use Prim.Native.Nat.{◌+◌, ◌-◌, ◌<◌}
+use native.Mathlib.Nat.{zero-add}
+use lib.ListN.{drop}
+use mathlib.Core.Path.{◌≡◌, refl, sym, ◌∙◌}
+use Rattle.rules.specs.Curve.{points, curve_at, segment_at}
+use Rattle.curves.proofs.Segments.{interpolable, read_here, read-on, read_end, found_here, found-on, named, not_on}
+use native.Mathlib.Omega.{arith}
+use borrow.Author.Rules.{rules}
+use Rattle.curves.proofs.reading.read_from_first.Given as goal
+
+abbrev pub invariant-loop-i : goal.invariant-loop-i
+invariant-loop-i l =
+    (l.i < 65) × (curve_at (drop l.i (points l.count l.xs l.ys)) l.x ≡ curve_at (points l.count l.xs l.ys) l.x) ×
+    (segment_at (points l.count l.xs l.ys) l.x ≡ l.i + segment_at (drop l.i (points l.count l.xs l.ys)) l.x)
+
+abbrev pub decreases-loop-i : goal.decreases-loop-i
+decreases-loop-i l = l.count - l.i

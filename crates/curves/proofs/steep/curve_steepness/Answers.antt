@@ -1,0 +1,37 @@
+use Prim.Native.Nat.{◌+◌, ◌-◌, ◌<◌, max}
+use lib.ListN.{drop}
+use mathlib.Core.Path.{◌≡◌}
+use Rattle.rules.specs.Curve.{points, curve_steepness}
+use Rattle.rules.proofs.Sound.{compressible, steepness_step, steepness_end}
+use native.Mathlib.Omega.{arith}
+use borrow.Author.Rules.{rules}
+use Rattle.curves.proofs.steep.curve_steepness.Goals as goal
+
+pub loop-i-init : goal.loop-i-init
+loop-i-init c = (omega arith, omega arith)
+
+element-copy-out-segment_steepness-2 :
+    goal.bounds-stress-i invariant-loop decreases-loop
+element-copy-out-segment_steepness-2 c = omega arith
+
+element-copy-out-segment_steepness-3 :
+    goal.bounds-void-i-in-loop-i invariant-loop decreases-loop
+element-copy-out-segment_steepness-3 c = omega arith
+
+element-copy-out-segment_steepness-4 :
+    goal.bounds-stress-i-in-loop-i invariant-loop decreases-loop
+element-copy-out-segment_steepness-4 c = omega arith
+
+pub segment_steepness-one-requires : goal.segment_steepness-one-requires
+segment_steepness-one-requires c =
+    let i = c.loop-i.i in
+    let k = compressible c.args.count c.args.void.now c.args.stress.now c.requires.stress_value in
+    omega (arith, k.void_falls i (omega arith), k.stress_rises i (omega arith), k.void_high i (omega arith), k.stress_high (i + 1) (omega arith))
+
+pub loop-i-preserved : goal.loop-i-preserved
+loop-i-preserved c =
+    (omega arith, omega (arith, c.greater-most.ensures, c.segment_steepness-one.ensures, steepness_step c.args.count c.args.void.now c.args.stress.now c.loop-i.i (omega arith)))
+
+pub returns : goal.returns
+returns c =
+    omega (arith, c.loop-i.invariant.1, steepness_end c.args.count c.args.void.now c.args.stress.now c.loop-i.i (omega arith))

@@ -1,0 +1,6 @@
+use borrow.Author.Rules.{rules}
+use Rattle.numbers.proofs.Quotients.{floored}
+use Rattle.numbers.proofs.floor.Goals as goal
+
+pub returns : goal.returns
+returns c = floored c.args.a c.args.b c.requires
