@@ -76,7 +76,7 @@ module _ (c : lts.After-cut tie.the-claims reads.Pre reads.Post tie.handed_claus
       (within-add {m = stress_limits.most} (within_le (within_pos start) (omega arith)) part-size)
 
   sum_is : pos start +ℤ part ≡ segment_load start end (passed s) (whole s)
-  sum_is = ap (λ (z : ℤ). pos start +ℤ cut (z *ℤ pos (passed s)) (whole s)) s.load_change.ensures.0
+  sum_is = ap (λ (z : ℤ). pos start +ℤ cut (z *ℤ pos (passed s)) (whole s)) s.load_change-change.ensures.0
 
 pub overflow_mul-change : goal.overflow_mul-change
 overflow_mul-change c = simp (passed_is c, read_back (change-fits c)) (product-fits c)
@@ -90,9 +90,9 @@ pub overflow_add-result : goal.overflow_add-result
 overflow_add-result c = simp (part-is c, start_is c, read_back (part-fits c)) (sum_fits c)
 
 pub returns : goal.returns
-returns c = let t = let stress = segment_stress (start c) (end c) (passed (s c)) (whole (s c)) (omega arith) (omega arith) stress_limits.most in
-    simp (part-is c, start_is c, read_back (part-fits c), read_back (sum_fits c))
-    (rw (sum_is c) (refl, stress (omega arith) (omega arith))) in record {
-      value = t.0;
-      pos_bound = t.1;
+returns c =
+    let stress = segment_stress (start c) (end c) (passed (s c)) (whole (s c)) (omega arith) (omega arith) stress_limits.most in
+    record {
+      value = simp (part-is c, start_is c, read_back (part-fits c), read_back (sum_fits c)) (rw (sum_is c));
+      pos_bound = simp (part-is c, start_is c, read_back (part-fits c), read_back (sum_fits c)) (rw (sum_is c) (stress (omega arith) (omega arith)));
     }

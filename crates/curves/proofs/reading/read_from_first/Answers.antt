@@ -19,12 +19,12 @@ interpolated-requires c = let t = interpolable _ _ _ c.args.x c.loop-i.i c.requi
 }
 
 pub returns-then-spans : goal.returns-then-spans
-returns-then-spans c =
-    let on = sym (c.spans.ensures _ _) ∙ c.if-spans.true in
-    let is = c.interpolated.ensures in (
-      (read_here _ _ _ c.args.x c.loop-i.i (omega arith) on is.value ∙ c.loop-i.invariant.1, omega arith),
-      (named c.args.count c.args.xs.now c.args.ys.now c.args.x c.loop-i.i is, λ _ _. found_here _ _ _ c.args.x c.loop-i.i (omega arith) on c.loop-i.invariant.2),
-    )
+returns-then-spans c = let on = sym (c.spans.ensures _ _) ∙ c.if-spans.true in
+    let is = c.interpolated.ensures in record {
+      value_value = (read_here _ _ _ c.args.x c.loop-i.i (omega arith) on is.value ∙ c.loop-i.invariant.1, omega arith);
+      read_on = named c.args.count c.args.xs.now c.args.ys.now c.args.x c.loop-i.i is;
+      by_index = λ _ _. found_here _ _ _ c.args.x c.loop-i.i (omega arith) on c.loop-i.invariant.2;
+    }
 
 pub loop-i-preserved : goal.loop-i-preserved
 loop-i-preserved c =

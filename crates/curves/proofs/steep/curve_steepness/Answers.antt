@@ -10,23 +10,12 @@ use Rattle.curves.proofs.steep.curve_steepness.Goals as goal
 pub loop-i-init : goal.loop-i-init
 loop-i-init c = (omega arith, omega arith)
 
-element-copy-out-segment_steepness-2 :
-    goal.bounds-stress-i invariant-loop decreases-loop
-element-copy-out-segment_steepness-2 c = omega arith
-
-element-copy-out-segment_steepness-3 :
-    goal.bounds-void-i-in-loop-i invariant-loop decreases-loop
-element-copy-out-segment_steepness-3 c = omega arith
-
-element-copy-out-segment_steepness-4 :
-    goal.bounds-stress-i-in-loop-i invariant-loop decreases-loop
-element-copy-out-segment_steepness-4 c = omega arith
-
 pub segment_steepness-one-requires : goal.segment_steepness-one-requires
-segment_steepness-one-requires c =
-    let i = c.loop-i.i in
-    let k = compressible c.args.count c.args.void.now c.args.stress.now c.requires.stress_value in
-    omega (arith, k.void_falls i (omega arith), k.stress_rises i (omega arith), k.void_high i (omega arith), k.stress_high (i + 1) (omega arith))
+segment_steepness-one-requires c = let i = c.loop-i.i in
+    let k = compressible c.args.count c.args.void.now c.args.stress.now c.requires.stress_value in record {
+      void1_lt_void0 = omega (arith, k.void_falls i (omega arith), k.stress_rises i (omega arith), k.void_high i (omega arith), k.stress_high (i + 1) (omega arith));
+      void0_le_most = omega (arith, k.void_falls i (omega arith), k.stress_rises i (omega arith), k.void_high i (omega arith), k.stress_high (i + 1) (omega arith));
+    }
 
 pub loop-i-preserved : goal.loop-i-preserved
 loop-i-preserved c =

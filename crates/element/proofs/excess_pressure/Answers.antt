@@ -10,12 +10,14 @@ use Rattle.numbers.specs.Interval.{Within}
 use Rattle.numbers.proofs.Interval.{within-add, within-sub, within_le, within_pos, within_fits}
 use Rattle.numbers.proofs.Signed.{read_back, read_unsigned}
 use Rattle.quantities.specs.Quantities.{stress_limits}
-use Rattle.element.proofs.excess_pressure.Statement.{statement}
+use Rattle.element.proofs.excess_pressure.Goals as goal
+use Rattle.element.proofs.excess_pressure.Lts as lts
+use Rattle.element.proofs.excess_pressure.Reads as reads
 use Rattle.element.proofs.excess_pressure.Tie as tie
 
-module _ (c : tie.Start) where
+module _ (c : lts.Start reads.Pre reads.Post tie.handed_clauses) where
   load_fits : SFits w64 c.args.load.0
-  load_fits = within_fits tt c.requires.0
+  load_fits = within_fits tt c.requires.within
 
   burden-is : to_z w64 c.args.burden ≡ pos c.args.burden
   burden-is = read_unsigned c.args.burden (omega arith)
@@ -24,7 +26,7 @@ module _ (c : tie.Start) where
   stress-is = read_unsigned c.args.stress (omega arith)
 
   total : Within (c.args.load.0 +ℤ pos c.args.burden) (stress_limits.most + most_burden)
-  total = within-add c.requires.0 (within_le {n = most_burden} (within_pos c.args.burden) (omega arith))
+  total = within-add c.requires.within (within_le {n = most_burden} (within_pos c.args.burden) (omega arith))
 
   total-fits : SFits w64 (c.args.load.0 +ℤ pos c.args.burden)
   total-fits = within_fits tt total
@@ -32,20 +34,11 @@ module _ (c : tie.Start) where
   excess-fits : SFits w64 (c.args.load.0 +ℤ pos c.args.burden -ℤ pos c.args.stress)
   excess-fits = within_fits {n = stress_limits.most + most_burden + stress_limits.most} tt (within-sub total (within_le {n = stress_limits.most} (within_pos c.args.stress) (omega arith)))
 
-cast-excess : tie.Need-overflow_cast-excess
-cast-excess c = search rules
+pub overflow_add-excess : goal.overflow_add-excess
+overflow_add-excess c = let s = c.before.before in simp (read_back (load_fits s), burden-is s) (total-fits s)
 
-add-excess : tie.Need-overflow_add-excess
-add-excess c = let s = c.before.before in simp (read_back (load_fits s), burden-is s) (total-fits s)
+pub overflow_sub-excess : goal.overflow_sub-excess
+overflow_sub-excess c = let s = c.before.before in simp (read_back (load_fits s), burden-is s, stress-is s, read_back (total-fits s)) (excess-fits s)
 
-cast-excess-2 : tie.Need-overflow_cast-excess-2
-cast-excess-2 c = search rules
-
-sub-excess : tie.Need-overflow_sub-excess
-sub-excess c = let s = c.before.before in simp (read_back (load_fits s), burden-is s, stress-is s, read_back (total-fits s)) (excess-fits s)
-
-returns : tie.Need-returns
+pub returns : goal.returns
 returns c = let s = c.before.before in simp (read_back (load_fits s), burden-is s, stress-is s, read_back (total-fits s), read_back (excess-fits s))
-
-pub excess_pressure_spec : {M : Type 1} → statement M
-excess_pressure_spec = tie.close (tie.spec cast-excess add-excess cast-excess-2 sub-excess returns)

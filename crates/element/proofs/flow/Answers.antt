@@ -11,10 +11,12 @@ use Rattle.numbers.proofs.Interval.{within-mul, within_le, within_pos, within_fi
 use Rattle.numbers.specs.Quotients.{Cut}
 use Rattle.numbers.proofs.Signed.{signed, read_back, read_unsigned}
 use Rattle.quantities.specs.Quantities.{step_limits}
-use Rattle.element.proofs.flow.Statement.{statement}
+use Rattle.element.proofs.flow.Goals as goal
+use Rattle.element.proofs.flow.Lts as lts
+use Rattle.element.proofs.flow.Reads as reads
 use Rattle.element.proofs.flow.Tie as tie
 
-module _ (c : tie.Start) where
+module _ (c : lts.Start tie.the-claims reads.Pre reads.Post tie.handed_clauses) where
   t-is : to_z w64 c.args.t ≡ pos c.args.t
   t-is = read_unsigned c.args.t (omega arith)
 
@@ -22,31 +24,22 @@ module _ (c : tie.Start) where
   resistance-is = read_unsigned c.args.resistance (omega arith)
 
   product : Within (c.args.difference *ℤ pos c.args.t) most_flow
-  product = within-mul c.requires.0 (within_le {n = step_limits.most} (within_pos c.args.t) (omega arith))
+  product = within-mul c.requires.within (within_le {n = step_limits.most} (within_pos c.args.t) (omega arith))
 
   product-fits : SFits w64 (c.args.difference *ℤ pos c.args.t)
   product-fits = within_fits tt product
 
-cast-cut : tie.Need-overflow_cast-cut
-cast-cut c = search rules
+pub overflow_mul-difference : goal.overflow_mul-difference
+overflow_mul-difference c = simp (read_back c.ranges.difference, t-is c) (product-fits c)
 
-mul-cut : tie.Need-overflow_mul-cut
-mul-cut c = simp (read_back c.ranges.difference, t-is c) (product-fits c)
-
-cast-cut-2 : tie.Need-overflow_cast-cut-2
-cast-cut-2 c = search rules
-
-cut-requires : tie.Need-cut-requires
-cut-requires c κs =
+pub cut-requires : goal.cut-requires
+cut-requires c =
     simp (read_back c.ranges.difference, t-is c, read_back (product-fits c), resistance-is c)
     (omega signed, within_le (product c) (lit≤ tt))
 
-returns : tie.Need-returns
+pub returns : goal.returns
 returns c =
     let s = c.before in
     let is : Cut (s.args.difference *ℤ pos s.args.t) s.args.resistance c.cut.result =
     simp (read_back s.ranges.difference, t-is s, read_back (product-fits s), resistance-is s) at c.cut.ensures in
-    rw (read_back {z = c.cut.result} (record { sfits = c.cut.type-inv })) is
-
-pub flow_spec : {M : Type 1} → statement M
-flow_spec = tie.close (tie.spec cast-cut mul-cut cast-cut-2 cut-requires returns)
+    rw (read_back {z = c.cut.result} (record { sfits = c.cut.type_inv })) is

@@ -11,10 +11,12 @@ use Rattle.numbers.proofs.Interval.{within-mul, within_le, within_pos, within_fi
 use Rattle.numbers.specs.Quotients.{Left}
 use Rattle.numbers.proofs.Signed.{signed, read_back, read_unsigned}
 use Rattle.quantities.specs.Quantities.{step_limits}
-use Rattle.element.proofs.flow_remainder.Statement.{statement}
+use Rattle.element.proofs.flow_remainder.Goals as goal
+use Rattle.element.proofs.flow_remainder.Lts as lts
+use Rattle.element.proofs.flow_remainder.Reads as reads
 use Rattle.element.proofs.flow_remainder.Tie as tie
 
-module _ (c : tie.Start) where
+module _ (c : lts.Start tie.the-claims reads.Pre reads.Post tie.handed_clauses) where
   t-is : to_z w64 c.args.t ≡ pos c.args.t
   t-is = read_unsigned c.args.t (omega arith)
 
@@ -22,31 +24,22 @@ module _ (c : tie.Start) where
   resistance-is = read_unsigned c.args.resistance (omega arith)
 
   product : Within (c.args.difference *ℤ pos c.args.t) most_flow
-  product = within-mul c.requires.0 (within_le {n = step_limits.most} (within_pos c.args.t) (omega arith))
+  product = within-mul c.requires.within (within_le {n = step_limits.most} (within_pos c.args.t) (omega arith))
 
   product-fits : SFits w64 (c.args.difference *ℤ pos c.args.t)
   product-fits = within_fits tt product
 
-cast-remainder : tie.Need-overflow_cast-remainder
-cast-remainder c = search rules
+pub overflow_mul-difference : goal.overflow_mul-difference
+overflow_mul-difference c = simp (read_back c.ranges.difference, t-is c) (product-fits c)
 
-mul-remainder : tie.Need-overflow_mul-remainder
-mul-remainder c = simp (read_back c.ranges.difference, t-is c) (product-fits c)
-
-cast-remainder-2 : tie.Need-overflow_cast-remainder-2
-cast-remainder-2 c = search rules
-
-remainder-requires : tie.Need-remainder-requires
-remainder-requires c κs =
+pub remainder-requires : goal.remainder-requires
+remainder-requires c =
     simp (read_back c.ranges.difference, t-is c, read_back (product-fits c), resistance-is c)
     (omega signed, within_le (product c) (lit≤ tt))
 
-returns : tie.Need-returns
+pub returns : goal.returns
 returns c =
     let s = c.before in
     let is : Left (s.args.difference *ℤ pos s.args.t) s.args.resistance c.remainder.result =
     simp (read_back s.ranges.difference, t-is s, read_back (product-fits s), resistance-is s) at c.remainder.ensures in
-    rw (read_back {z = c.remainder.result} (record { sfits = c.remainder.type-inv })) is
-
-pub flow_remainder_spec : {M : Type 1} → statement M
-flow_remainder_spec = tie.close (tie.spec cast-remainder mul-remainder cast-remainder-2 remainder-requires returns)
+    rw (read_back {z = c.remainder.result} (record { sfits = c.remainder.type_inv })) is

@@ -1,0 +1,7 @@
+use borrow.Author.Rules.{rules}
+use Rattle.rules.specs.Layer.{sensitivity}
+use Rattle.element.proofs.sensitivity.Goals as goal
+
+pub returns : goal.returns
+unfolding sensitivity
+returns c = c.ceil.ensures.quotient
