@@ -3,7 +3,7 @@
 
 usage: python3 tools/respell.py     once, at the top of the repository
 
-A word in camel case that begins with a small letter is written in snake case. A dash stays between two names of definitions, as
+A word in camel case that begins with a small letter is written in snake case. A dash stays between two names of functions, as
 in `length-overlaid`, and becomes an underscore between other words. Names that the checker makes, and those of the source, stay.
 Last comes a list of places where two names would fall together; nothing is written then.
 """
@@ -36,11 +36,11 @@ MENDED = {
 LEMMAS = set(
     "burdens-in burden-at layer-height face-number face-holds opened-record fields-answer longest-step elements-in flows-in "
     "excess-at resistance-at step-taken opening-by with-events replay-opened last-abscissa last-stress table-at new-height "
-    "job-length".split()
+    "job-length opening-load lowest-water highest-water is-on steady-flows header-length".split()
 )
 # Labels and locals that share a word in one file, and mean no other thing there.
 APART = {
-    "crates/laws/proofs/SoundHeader.antt": {"top_kept", "table_kept", "start_kept"},
+    "crates/laws/proofs/SoundHeader.antt": None,
     "crates/rules/specs/Job.antt": None,
     "crates/rules/specs/Record.antt": None,
 }
@@ -84,18 +84,20 @@ def dashes(word, names):
 
 def main():
     shared = [f for f in files(["specs/**/*.antt", "proofs/*.antt"])]
-    declared, functions = set(), set()
+    declared, functions, fields = set(), set(), set()
     for path in shared:
         for line in open(path, encoding="utf-8"):
             line = code_of(line)
             m = DECLARED.match(line)
             if m:
                 declared.add(m.group(1))
-                if "/specs/" in path:
+                if "/specs/" in path and re.match(r"(abbrev |unfoldable )pub .*→", line):
                     functions.add(snake(m.group(1)).replace("-", "_"))
+                if "/specs/" in path and line.startswith("  pub "):
+                    fields.add(m.group(1))
             for m in BINDER.finditer(line):
                 declared.update(w for w in m.group(1).split() if WORD.fullmatch(w))
-    names = functions | LIBRARY
+    names = functions - {snake(w).replace("-", "_") for w in fields} | LIBRARY
     new = dict(MENDED)
     for path in files(["specs/**/*.antt", "proofs/**/*.antt"]):
         for line in open(path, encoding="utf-8"):
@@ -107,7 +109,7 @@ def main():
                 elif word in LEMMAS:
                     new[word] = word.replace("-", "_") + "_lem"
                 elif word in declared and re.search(r"[\w']-[\w']", word) and not re.match(r"[A-Z]", word):
-                    new.setdefault(word, dashes(snake(word), names))
+                    new.setdefault(word, dashes(snake(word), set() if word in fields else names))
     new = {a: b for a, b in new.items() if a != b}
 
     clashes = []

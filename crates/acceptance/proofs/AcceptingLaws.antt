@@ -30,9 +30,9 @@ module _ (d : Description) where
   unfolding layer_causes first_cause
   header_outside e = rw (e, first_cause)
 
-  pub header-within : header_sound d.header ≡ true → first_cause (layer_causes d) ≡ first_cause (described_causes d)
+  pub header_within : header_sound d.header ≡ true → first_cause (layer_causes d) ≡ first_cause (described_causes d)
   unfolding layer_causes first_cause
-  header-within e = rw (e, first_cause)
+  header_within e = rw (e, first_cause)
 
   -- what is answered, the water that is left, and the burdens
   pub record Accepts (answer : Acceptance) (water : List ℕ) (burden : List ℕ → List ℕ) : Type 0 where

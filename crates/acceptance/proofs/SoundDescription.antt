@@ -11,7 +11,7 @@ use mathlib.Core.Option.{Option, none, some}
 use mathlib.Core.Path.{◌≡◌, refl, sym, ap, subst, ◌∙◌}
 use Rattle.description.proofs.Checking.{none_tests}
 use Rattle.acceptance.specs.Accepting.{water_started}
-use Rattle.acceptance.proofs.AcceptingLaws.{Accepts, burdens_in, header-within, unstarted_accepts, start_accepts}
+use Rattle.acceptance.proofs.AcceptingLaws.{Accepts, burdens_in, header_within, unstarted_accepts, start_accepts}
 use Rattle.acceptance.specs.Accepting.{progress_at}
 use Rattle.acceptance.proofs.Starting.{given_left}
 use Rattle.claims.proofs.Described.{Described}
@@ -19,13 +19,13 @@ use Rattle.claims.proofs.Opened.{opened_stands}
 use Rattle.claims.proofs.Stands.{Stands, stands_layer}
 use Rattle.claims.proofs.Starts.{off_started, steady-started, unsteady_started}
 use Rattle.laws.specs.Every.{Every}
-use Rattle.laws.proofs.Every.{every_at, every-tabulate}
-use Rattle.laws.proofs.Excess.{burdens-most}
+use Rattle.laws.proofs.Every.{every_at, every_tabulate}
+use Rattle.laws.proofs.Excess.{burdens_most}
 use Rattle.laws.proofs.Lengths.{burdens-length}
 use Rattle.laws.specs.Most.{most_burden, sharp_burden}
 use Rattle.laws.proofs.Sizes.{SoundSizes, sound_sizes}
 use Rattle.laws.proofs.SoundFields.{SoundFields, sound_fields}
-use Rattle.laws.proofs.SoundHeader.{SoundHeader, kept-header}
+use Rattle.laws.proofs.SoundHeader.{SoundHeader, kept_header}
 use Rattle.weights.specs.Weights.{burden_at}
 use Rattle.numbers.specs.Arrays.{first_places, overlaid}
 use Rattle.numbers.proofs.Filled.{first_length, get_or-filled}
@@ -54,8 +54,8 @@ use Rattle.start.specs.Rest.{all_or_none}
 use Rattle.table.proofs.Laws.{tabled}
 
 -- a start that has to be steady and is not is not start 1
-steady-given : (start : ℕ) (steadied : Bool) → (not (eqb start 2) || steadied) ≡ false → eqb start 1 ≡ false
-steady-given start steadied e = go (eqb start 2) refl e
+steady_given : (start : ℕ) (steadied : Bool) → (not (eqb start 2) || steadied) ≡ false → eqb start 1 ≡ false
+steady_given start steadied e = go (eqb start 2) refl e
   where
     go : (two : Bool) → eqb start 2 ≡ two → (not two || steadied) ≡ false → eqb start 1 ≡ false
     go true p e = let two = eqb→eq start 2 (passed p) in ne_eqb start 1 (λ one. omega (arith, one, two))
@@ -67,7 +67,7 @@ module _ (d : Description) (header : header_sound d.header ≡ true) (sound : fi
 
   pub kept : SoundHeader d.header.top d.header.bottom n d.header.compressibility_points d.header.conductivity_points
       d.header.table_points d.header.start d.header.gravity
-  kept = kept-header d.header header
+  kept = kept_header d.header header
 
   pub fields : SoundFields d
   fields = sound_fields d (none_tests d sound).0
@@ -82,7 +82,7 @@ module _ (d : Description) (header : header_sound d.header ≡ true) (sound : fi
 
   pub heights_kept : (j : ℕ) → j < n →
       (0 < get_or d.solids j 0) × (get_or d.solids j 0 ≤ solids_limits.most) × (get_or d.water j 0 ≤ water_limits.most)
-  heights_kept j h = (omega (arith, sized.solids-least j h), sized.solids-most j h, sized.water-most j h)
+  heights_kept j h = (omega (arith, sized.solids_least j h), sized.solids_most j h, sized.water_most j h)
 
   pub dry : not (eqb d.header.start 1) || all (λ w. eqb w 0) (first_places n d.water) ≡ true
   unfolding given_water
@@ -111,9 +111,9 @@ module _ (d : Description) (header : header_sound d.header ≡ true) (sound : fi
   abbrev load : ℕ
   load = get_or d.table_load 0 0
 
-  pub load-most : load ≤ stress_limits.most
+  pub load_most : load ≤ stress_limits.most
   unfolding job_site
-  load-most =
+  load_most =
       (tabled d.header.table_points d.table_time d.table_load (none_tests d sound).3).load_high 0 (omega (arith, kept.table_kept.least))
 
   load_is : load ≡ opening_load (job_site d)
@@ -127,44 +127,44 @@ module _ (d : Description) (header : header_sound d.header ≡ true) (sound : fi
     unfolding burden_at
     burden_at_lem j h = rw is (get_or-filled _ _ _ _ _ h)
 
-    pub burden-most : (j : ℕ) → j < n → get_or burden j 0 ≤ most_burden
+    pub burden_most : (j : ℕ) → j < n → get_or burden j 0 ≤ most_burden
     unfolding first_places
-    burden-most j h =
+    burden_most j h =
         let solid : Every (λ S. S ≤ solids_limits.most) (first_places n d.solids) =
-        every-tabulate (λ S. S ≤ solids_limits.most) n (λ i. get_or d.solids i 0) (λ i k. sized.solids-most i k) in
-        let few : length (first_places n d.solids) ≤ element_limits.most = omega (arith, first_length n d.solids, kept.elements-kept.most) in
+        every_tabulate (λ S. S ≤ solids_limits.most) n (λ i. get_or d.solids i 0) (λ i k. sized.solids_most i k) in
+        let few : length (first_places n d.solids) ≤ element_limits.most = omega (arith, first_length n d.solids, kept.elements_kept.most) in
         let most = every_at (λ B. B ≤ sharp_burden) (burdens d.header.gravity (first_places n d.solids)) j 0
-        (burdens-most d.header.gravity kept.gravity-kept.most _ solid few)
+        (burdens_most d.header.gravity kept.gravity_kept.most _ solid few)
         (omega (arith, burdens-length d.header.gravity (first_places n d.solids), first_length n d.solids)) in
         omega (arith, burden_at_lem j h)
 
     -- the water of its start, as it is found and as it is left in the array
-    module _ {may_rest : Bool} (is-over : may_rest ≡ over) (found : Bool) (after : List ℕ)
+    module _ {may_rest : Bool} (is_over : may_rest ≡ over) (found : Bool) (after : List ℕ)
         (finds : start_water (skeleton_of curve) (first_places n burden) (first_places n d.solids) may_rest d.header.start (first_places n d.water) load ≡
         all_or_none found (first_places n after))
         (leaves : after ≡
         water_started (start_water (skeleton_of curve) (first_places n burden) (first_places n d.solids) may_rest d.header.start (first_places n d.water) load) d.water) where
       none_first : first_cause (layer_causes d) ≡ none
-      none_first = header-within d header ∙ sound
+      none_first = header_within d header ∙ sound
 
-      water-is : start_water (skeleton_of curve) (first_places n burden) (first_places n d.solids) may_rest d.header.start (first_places n d.water) load ≡
+      water_is : start_water (skeleton_of curve) (first_places n burden) (first_places n d.solids) may_rest d.header.start (first_places n d.water) load ≡
           description_water d
       unfolding description_water given_water job_site
-      water-is =
+      water_is =
           ap (λ (Bs : List ℕ). start_water (skeleton_of curve) Bs (first_places n d.solids) may_rest d.header.start (first_places n d.water) load)
           (sym (burdens_in_lem d.header.gravity n d.solids burden burden_at_lem)) ∙
           λ i.
-          start_water (skeleton_of curve) (burdens d.header.gravity (first_places n d.solids)) (first_places n d.solids) (is-over i) d.header.start (first_places n d.water) (load_is i)
+          start_water (skeleton_of curve) (burdens d.header.gravity (first_places n d.solids)) (first_places n d.solids) (is_over i) d.header.start (first_places n d.water) (load_is i)
 
-      water-found : description_water d ≡ all_or_none found (first_places n after)
-      water-found = sym water-is ∙ finds
+      water_found : description_water d ≡ all_or_none found (first_places n after)
+      water_found = sym water_is ∙ finds
 
       water_left : after ≡ water_started (description_water d) d.water
-      water_left = leaves ∙ ap (λ (o : Option (List ℕ)). water_started o d.water) water-is
+      water_left = leaves ∙ ap (λ (o : Option (List ℕ)). water_started o d.water) water_is
 
       -- given water is left as it was
-      given-kept : n ≤ length d.water → eqb d.header.start 1 ≡ false → after ≡ d.water
-      given-kept few e =
+      given_kept : n ≤ length d.water → eqb d.header.start 1 ≡ false → after ≡ d.water
+      given_kept few e =
           leaves ∙
           ap (λ (o : Option (List ℕ)). water_started o d.water)
           (given_start (skeleton_of curve) (first_places n burden) (first_places n d.solids) may_rest d.header.start (first_places n d.water) load e) ∙
@@ -174,7 +174,7 @@ module _ (d : Description) (header : header_sound d.header ≡ true) (sound : fi
       pub off_curve : found ≡ false → Accepts d (Refused StartOffCurve) after (burdens_in d)
       unfolding all_or_none water_started
       off_curve e =
-          let off : description_water d ≡ none = water-found ∙ ap (λ (b : Bool). all_or_none b (first_places n after)) e in
+          let off : description_water d ≡ none = water_found ∙ ap (λ (b : Bool). all_or_none b (first_places n after)) e in
           rw (water_left, off) (unstarted_accepts d none_first StartOffCurve (off_started d off))
 
       -- ---- a start that cause 9 does not refuse
@@ -185,7 +185,7 @@ module _ (d : Description) (header : header_sound d.header ≡ true) (sound : fi
 
         on : description_water d ≡ some water
         unfolding all_or_none
-        on = water-found ∙ ap (λ (b : Bool). all_or_none b water) is_found
+        on = water_found ∙ ap (λ (b : Bool). all_or_none b water) is_found
 
         after_is : after ≡ overlaid water d.water
         unfolding water_started
@@ -223,20 +223,20 @@ module _ (d : Description) (header : header_sound d.header ≡ true) (sound : fi
 
           -- whether it is steady where it has to be
           module _ {steadied : Bool} (tested : steadied ≡ (not (eqb d.header.start 2) || steady (record_site lent) (record_state lent))) where
-            steady-is : start_steady d water ≡ steadied
+            steady_is : start_steady d water ≡ steadied
             unfolding start_steady
-            steady-is = sym (tested ∙ rw (lent_is, stands.site_is, stands.state-is) refl)
+            steady_is = sym (tested ∙ rw (lent_is, stands.site_is, stands.state_is) refl)
 
             -- cause 20: then the water was given, and is left so
             pub unsteady : n ≤ length d.water → steadied ≡ false → Accepts d (Refused StartNotSteady) after (burdens_in d)
             unsteady few e =
-                rw (given-kept few (steady-given d.header.start (steady (record_site lent) (record_state lent)) (sym tested ∙ e)))
-                (unstarted_accepts d none_first StartNotSteady (unsteady_started d water on (steady-is ∙ e)))
+                rw (given_kept few (steady_given d.header.start (steady (record_site lent) (record_state lent)) (sym tested ∙ e)))
+                (unstarted_accepts d none_first StartNotSteady (unsteady_started d water on (steady_is ∙ e)))
 
             -- a layer
             pub accepts : steadied ≡ true → Accepts d (Accepted frame progress) after (burdens_in d)
             accepts e =
-                let a = start_accepts d none_first water (steady-started d water on (steady-is ∙ e)) in
+                let a = start_accepts d none_first water (steady-started d water on (steady_is ∙ e)) in
                 record {
                   answers = (λ i. Accepted (frame_is i) (progress_opened i)) ∙ a.answers;
                   water_left = water_left ∙ ap (λ (o : Option (List ℕ)). water_started o d.water) on ∙ a.water_left;

@@ -30,9 +30,9 @@ use Rattle.start.specs.Rest.{all_or_none, resting_heights}
 
 module _ (soil : Skeleton) (Bs Ss : List ℕ) (may_rest : Bool) (start : ℕ) (given : List ℕ) (load : ℕ) where
   -- the starts 0 and 2: what is given, by the test that all of it is on the curve
-  pub given-found : (start ≡ 1 → ⊥) → {on : Bool} → on ≡ all_on_curve soil Ss (map pos given) →
+  pub given_found : (start ≡ 1 → ⊥) → {on : Bool} → on ≡ all_on_curve soil Ss (map pos given) →
       start_water soil Bs Ss may_rest start given load ≡ all_or_none on given
-  given-found e is = given_start soil Bs Ss may_rest start given load (ne_eqb start 1 e) ∙ ap (λ (on : Bool). all_or_none on given) (sym is)
+  given_found e is = given_start soil Bs Ss may_rest start given load (ne_eqb start 1 e) ∙ ap (λ (on : Bool). all_or_none on given) (sym is)
 
   -- start 1: what rests, and nothing over another level
   pub resting-found : start ≡ 1 → may_rest ≡ true → start_water soil Bs Ss may_rest start given load ≡ resting_from soil load Bs Ss
@@ -67,8 +67,8 @@ module _ (n : ℕ) (before : List ℕ) (few : n ≤ length before) where
     pub resting_long : length after ≡ length before
     resting_long = ap (λ (l : List ℕ). length l) is ∙ length-overlaid heights before (omega (arith, no_more))
 
-    pub resting-most : ((j : ℕ) → j < n → get_or before j 0 ≤ water_limits.most) → (j : ℕ) → j < n → get_or after j 0 ≤ water_limits.most
-    resting-most most j h = rw is (go (ltb j (length heights)) refl)
+    pub resting_most : ((j : ℕ) → j < n → get_or before j 0 ≤ water_limits.most) → (j : ℕ) → j < n → get_or after j 0 ≤ water_limits.most
+    resting_most most j h = rw is (go (ltb j (length heights)) refl)
       where
         go : (below : Bool) → ltb j (length heights) ≡ below → get_or (overlaid heights before) j 0 ≤ water_limits.most
         go true e =

@@ -36,13 +36,11 @@ pub fn accept<'a>(
     table_load: &'a [u64; 64],
     burden: &mut [u64; 128],
 ) -> Acceptance
-    ghost d: { Description }
-    requires table_load_value { description_of header void.now stress.now conductivity_void.now conductivity.now solids.now water.old table_time.now table_load.now ≡ d }
     requires water_len { (length water.old ≡ 128) × (length burden.old ≡ 128) }
-    ensures value { result ≡ accepted d }
-    ensures water_after { water.new ≡ accepted_water d }
-    ensures burden_after { burden.new ≡ accepted_burden d burden.old }
-    ensures result_value { acceptance_number result ≡ accepted_number d }
+    ensures value { let d : Description = description_of header void.now stress.now conductivity_void.now conductivity.now solids.now water.old table_time.now table_load.now in result ≡ accepted d }
+    ensures water_after { let d : Description = description_of header void.now stress.now conductivity_void.now conductivity.now solids.now water.old table_time.now table_load.now in water.new ≡ accepted_water d }
+    ensures burden_after { let d : Description = description_of header void.now stress.now conductivity_void.now conductivity.now solids.now water.old table_time.now table_load.now in burden.new ≡ accepted_burden d burden.old }
+    ensures result_value { let d : Description = description_of header void.now stress.now conductivity_void.now conductivity.now solids.now water.old table_time.now table_load.now in acceptance_number result ≡ accepted_number d }
 {
     if !form::header_sound(header) {
         return Acceptance::Refused(Refusal::HeaderOutside);
@@ -92,14 +90,12 @@ pub fn accept_start<'a>(
     table_load: &'a [u64; 64],
     burden: &mut [u64; 128],
 ) -> Acceptance
-    ghost d: { Description }
-    requires table_load_value { description_of header void.now stress.now conductivity_void.now conductivity.now solids.now water.old table_time.now table_load.now ≡ d }
-    requires header_value { (header_sound header ≡ true) × (first_cause (described_causes d) ≡ none) }
+    requires header_value { let d : Description = description_of header void.now stress.now conductivity_void.now conductivity.now solids.now water.old table_time.now table_load.now in (header_sound header ≡ true) × (first_cause (described_causes d) ≡ none) }
     requires top_level_value { (top_level ≡ head (pos header.top_level)) × (bottom_level ≡ head (pos header.bottom_level)) }
     requires water_len { (length water.old ≡ 128) × (length burden.old ≡ 128) }
-    ensures value { result ≡ accepted d }
-    ensures water_after { water.new ≡ accepted_water d }
-    ensures burden_after { burden.new ≡ accepted_burden d burden.old }
+    ensures value { let d : Description = description_of header void.now stress.now conductivity_void.now conductivity.now solids.now water.old table_time.now table_load.now in result ≡ accepted d }
+    ensures water_after { let d : Description = description_of header void.now stress.now conductivity_void.now conductivity.now solids.now water.old table_time.now table_load.now in water.new ≡ accepted_water d }
+    ensures burden_after { let d : Description = description_of header void.now stress.now conductivity_void.now conductivity.now solids.now water.old table_time.now table_load.now in burden.new ≡ accepted_burden d burden.old }
 {
     let elements = header.elements;
     weights::burdens(elements, header.gravity, solids, burden);

@@ -17,7 +17,7 @@ LoadKept = Between (pos 0) (pos stress_limits.most)
 -- what an accepted step meets
 pub record StepAccepted (site : Site) (s : State) (t : ℕ) : Type 0 where
   pub least : 1 ≤ t
-  pub clock-most : s.clock + t ≤ clock_limits.most
+  pub clock_most : s.clock + t ≤ clock_limits.most
   pub short : T (not (too_long site s t))
   pub stays : T (not (leaves_curve site s t))
 

@@ -7,12 +7,12 @@ use mathlib.Core.List.{List, [], ◌∷◌}
 use mathlib.Core.Logic.{◌⊎◌}
 use mathlib.Core.Path.{◌≡◌, refl, sym, ap, ap₂, subst, ◌∙◌}
 use Rattle.claims.proofs.Accepted.{AllAccepted}
-use Rattle.claims.proofs.Answers.{OnLayer, answers-on_layer}
-use Rattle.claims.proofs.Courses.{tallied-solids, course-tallied, course-accepted}
+use Rattle.claims.proofs.Answers.{OnLayer, answers_on_layer}
+use Rattle.claims.proofs.Courses.{tallied_solids, course-tallied, course-accepted}
 use Rattle.claims.proofs.Excesses.{AllExcess, Bounded, first_within, events_bounded}
 use Rattle.claims.proofs.Extremes.{every_image, bounding}
 use Rattle.claims.proofs.Kept.{SoundSite, Kept}
-use Rattle.claims.proofs.Outflows.{events-not_lowered, level_zero}
+use Rattle.claims.proofs.Outflows.{events_not_lowered, level_zero}
 use Rattle.claims.specs.Pressures.{pressures, lowest, highest, NotNegative, NotLowered}
 use Rattle.claims.proofs.Replay.{Follows, follows}
 use Rattle.claims.proofs.Stands.{Stands, site_sound}
@@ -94,10 +94,10 @@ module _ (site : Site) (water : List ℕ) (opened : Record) (h : Stands site (su
   same_answers = followed.answers
 
   pub no_refusal_11 : Every OnLayer (replayed opened calls).answers
-  no_refusal_11 = rw same_answers (answers-on_layer site calls first)
+  no_refusal_11 = rw same_answers (answers_on_layer site calls first)
 
   pub same_state : record_state r ≡ last
-  same_state = followed.stands.state-is
+  same_state = followed.stands.state_is
 
   pub starting_water : r.layer.frame.starting_water ≡ water_left first.state
   unfolding begun water_left
@@ -112,7 +112,7 @@ module _ (site : Site) (water : List ℕ) (opened : Record) (h : Stands site (su
   pub same_solids : (record_site r).solids ≡ c.tally.solids
   unfolding begun
   same_solids =
-      job_solids ∙ sym (ap (λ (y : Tally). y.solids) (course-tallied site calls first) ∙ tallied-solids site c.events first)
+      job_solids ∙ sym (ap (λ (y : Tally). y.solids) (course-tallied site calls first) ∙ tallied_solids site c.events first)
 
   -- ---- water and height
 
@@ -129,10 +129,10 @@ module _ (site : Site) (water : List ℕ) (opened : Record) (h : Stands site (su
   last_height : layer_height (record_site r).solids (record_state r) ≡ sum site.solids + water_left (record_state r)
   last_height = rw (job_solids, same_state) (layer_height_lem site (sum water) last followed.stands.kept)
 
-  pub settlement-is :
+  pub settlement_is :
       settlement r ≡ pos (layer_height first.solids first.state) -ℤ pos (layer_height (record_site r).solids (record_state r))
   unfolding settlement
-  settlement-is =
+  settlement_is =
       let same : sum (record_site r).solids + r.layer.frame.starting_water ≡ layer_height first.solids first.state =
       rw (job_solids, starting_water) (sym first_height) in
       ap (λ (n : ℕ). pos n -ℤ pos (layer_height (record_site r).solids (record_state r))) same
@@ -142,7 +142,7 @@ module _ (site : Site) (water : List ℕ) (opened : Record) (h : Stands site (su
       settlement r ≡ s.top_outflow +ℤ s.bottom_outflow
   settles =
       let s = record_state r in
-      settlement-is ∙ ap₂ (λ (a b : ℕ). pos a -ℤ pos b) first_height last_height ∙
+      settlement_is ∙ ap₂ (λ (a b : ℕ). pos a -ℤ pos b) first_height last_height ∙
       settled (sum site.solids) (water_left first.state) (water_left s) s.top_outflow s.bottom_outflow balanced
 
   -- ---- excess pressures
@@ -175,5 +175,5 @@ module _ (site : Site) (water : List ℕ) (opened : Record) (h : Stands site (su
   unfolding excesses begun
   not_lowered none p b =
       let never : (tallied site c.events first).falls ≡ 0 = sym (ap (λ (y : Tally). y.falls) (course-tallied site calls first)) ∙ none in
-      events-not_lowered site sound (sum water) (level_zero site sound b) c.events first own accepted kept
+      events_not_lowered site sound (sum water) (level_zero site sound b) c.events first own accepted kept
       ((every_image NotNegative (λ e. e.excess) (read_elements site first.state)).0 p) (omega arith)

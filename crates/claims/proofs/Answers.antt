@@ -45,9 +45,9 @@ call_on_layer site s (Step t) =
 call_on_layer site s (Run end budget) =
     by_cause (run_trials s end budget) (ran site end budget s) ((λ e. apart (cc)), tt) (λ e. apart (cc))
 
-pub answers-on_layer : (site : Site) (calls : List Call) (y : Tally) → Every OnLayer (course site calls y).answers
+pub answers_on_layer : (site : Site) (calls : List Call) (y : Tally) → Every OnLayer (course site calls y).answers
 unfolding course Every
-answers-on_layer site [] y = tt
-answers-on_layer site (call ∷ rest) y =
+answers_on_layer site [] y = tt
+answers_on_layer site (call ∷ rest) y =
     let own = tally_site site y in
-    (call_on_layer own y.state call, answers-on_layer site rest (tallied site (outcome own y.state call).events y))
+    (call_on_layer own y.state call, answers_on_layer site rest (tallied site (outcome own y.state call).events y))

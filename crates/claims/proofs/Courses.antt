@@ -18,26 +18,26 @@ module _ (site : Site) where
   tally_own y own = rw own refl
 
   -- an event takes the tally's state to the state after it, and leaves its solids
-  pub recorded-state : (e : Event) (y : Tally) → y.solids ≡ site.solids → (recorded site e y).state ≡ after_event site e y.state
+  pub recorded_state : (e : Event) (y : Tally) → y.solids ≡ site.solids → (recorded site e y).state ≡ after_event site e y.state
   unfolding recorded
-  recorded-state (load_set load) y own = ap (λ (x : Site). after_event x (load_set load) y.state) (tally_own y own)
-  recorded-state (step_taken t) y own = ap (λ (x : Site). after_event x (step_taken t) y.state) (tally_own y own)
+  recorded_state (load_set load) y own = ap (λ (x : Site). after_event x (load_set load) y.state) (tally_own y own)
+  recorded_state (step_taken t) y own = ap (λ (x : Site). after_event x (step_taken t) y.state) (tally_own y own)
 
-  pub recorded-solids : (e : Event) (y : Tally) → (recorded site e y).solids ≡ y.solids
+  pub recorded_solids : (e : Event) (y : Tally) → (recorded site e y).solids ≡ y.solids
   unfolding recorded
-  recorded-solids (load_set load) y = refl
-  recorded-solids (step_taken t) y = refl
+  recorded_solids (load_set load) y = refl
+  recorded_solids (step_taken t) y = refl
 
-  pub tallied-state : (es : List Event) (y : Tally) → y.solids ≡ site.solids → (tallied site es y).state ≡ after_events site es y.state
+  pub tallied_state : (es : List Event) (y : Tally) → y.solids ≡ site.solids → (tallied site es y).state ≡ after_events site es y.state
   unfolding tallied after_events
-  tallied-state [] y own = refl
-  tallied-state (e ∷ rest) y own =
-      tallied-state rest (recorded site e y) (recorded-solids e y ∙ own) ∙ ap (after_events site rest) (recorded-state e y own)
+  tallied_state [] y own = refl
+  tallied_state (e ∷ rest) y own =
+      tallied_state rest (recorded site e y) (recorded_solids e y ∙ own) ∙ ap (after_events site rest) (recorded_state e y own)
 
-  pub tallied-solids : (es : List Event) (y : Tally) → (tallied site es y).solids ≡ y.solids
+  pub tallied_solids : (es : List Event) (y : Tally) → (tallied site es y).solids ≡ y.solids
   unfolding tallied
-  tallied-solids [] y = refl
-  tallied-solids (e ∷ rest) y = tallied-solids rest (recorded site e y) ∙ recorded-solids e y
+  tallied_solids [] y = refl
+  tallied_solids (e ∷ rest) y = tallied_solids rest (recorded site e y) ∙ recorded_solids e y
 
   -- events one after the other
   tallied-append : (es more : List Event) (y : Tally) → tallied site (es ++ more) y ≡ tallied site more (tallied site es y)
@@ -70,4 +70,4 @@ module _ (site : Site) where
       let after = tallied site es y in
       let here : AllAccepted site y.state es = rw (tally_own y own) (call_accepted site sound y.state call) in
       accepted-append es (course site rest after).events y.state here
-      (rw (tallied-state es y own) at (course-accepted sound rest after (tallied-solids es y ∙ own)))
+      (rw (tallied_state es y own) at (course-accepted sound rest after (tallied_solids es y ∙ own)))

@@ -9,7 +9,7 @@ use mathlib.Core.Path.{◌≡◌, refl}
 use Rattle.claims.proofs.Causes.{twice_not, neither, none_holds}
 use Rattle.claims.proofs.Fixed.{Fixed, sized_dry}
 use Rattle.laws.proofs.SoundFields.{sound_fields}
-use Rattle.laws.proofs.SoundHeader.{kept-header}
+use Rattle.laws.proofs.SoundHeader.{kept_header}
 use Rattle.laws.specs.Every.{Every}
 use Rattle.numbers.proofs.Equality.{eq_ℤ_refl}
 use Rattle.numbers.specs.Integers.{eq_ℤ}
@@ -70,17 +70,17 @@ header_again : (h : Header) (held held' : Pressure) → header_sound h ≡ true 
     h.conductivity_points h.table_points 0 h.gravity ≡ true
 unfolding form_sound
 header_again h held held' e =
-    let s = kept-header h e in
+    let s = kept_header h e in
     rw (
       face_number_lem h.top held s.top_kept.most,
-      face_number_lem h.bottom held' s.bottom-kept.most,
+      face_number_lem h.bottom held' s.bottom_kept.most,
       inside flag_limits h.top s.top_kept.least s.top_kept.most,
-      inside flag_limits h.bottom s.bottom-kept.least s.bottom-kept.most,
-      inside element_limits h.elements s.elements-kept.least s.elements-kept.most,
-      inside curve_limits h.compressibility_points s.compressibility-kept.least s.compressibility-kept.most,
-      inside curve_limits h.conductivity_points s.conductivity-kept.least s.conductivity-kept.most,
+      inside flag_limits h.bottom s.bottom_kept.least s.bottom_kept.most,
+      inside element_limits h.elements s.elements_kept.least s.elements_kept.most,
+      inside curve_limits h.compressibility_points s.compressibility_kept.least s.compressibility_kept.most,
+      inside curve_limits h.conductivity_points s.conductivity_kept.least s.conductivity_kept.most,
       inside table_limits h.table_points s.table_kept.least s.table_kept.most,
-      inside gravity_limits h.gravity s.gravity-kept.least s.gravity-kept.most,
+      inside gravity_limits h.gravity s.gravity_kept.least s.gravity_kept.most,
     )
 
 module _ (d : Description) (s : Described d) where

@@ -37,11 +37,11 @@ stop_goes stop t e = let z : ◌≡◌ {A = ℕ} 0 1 = cc in omega arith
 
 module _ (site : Site) (sound : T (table_sound site.load_table)) where
   -- what the loop finds is a step to take only if that is the longest one, is not 0 and stays on the curve
-  pub turn-goes : (s : State) (longest t : ℕ) → turn site s longest ≡ goes t →
+  pub turn_goes : (s : State) (longest t : ℕ) → turn site s longest ≡ goes t →
       (longest ≡ t) × (1 ≤ t) × T (not (leaves_curve site s t))
   unfolding turn
-  turn-goes s zero t e = absurd (stop_goes NoStep t e)
-  turn-goes s (suc u) t e = go (leaves_curve site s (suc u)) refl e
+  turn_goes s zero t e = absurd (stop_goes NoStep t e)
+  turn_goes s (suc u) t e = go (leaves_curve site s (suc u)) refl e
     where
       go : (c : Bool) → leaves_curve site s (suc u) ≡ c → elim c as (λ _. Turn) [ true ↦ stops OffCurve | false ↦ goes (suc u) ] ≡ goes t →
           (suc u ≡ t) × (1 ≤ t) × T (not (leaves_curve site s t))
@@ -96,11 +96,11 @@ module _ (site : Site) (sound : T (table_sound site.load_table)) where
           AllAccepted site s (found x).events
       go (stops stop) e ih = (sound_load site.load_table sound s.clock, tt)
       go (goes t) e ih =
-          let (is, least, stays) = turn-goes loaded longest t e in
+          let (is, least, stays) = turn_goes loaded longest t e in
           let within : s.clock + t ≤ end = omega (arith, longest-within end loaded h) in
           let short = subst (λ (v : ℕ). T (not (too_long site loaded v))) is (longest-accepted site end loaded).1 in (
             sound_load site.load_table sound s.clock,
-            (record { least = least; clock-most = omega arith; short = short; stays = stays }, ih (stepped site t loaded) within k),
+            (record { least = least; clock_most = omega arith; short = short; stays = stays }, ih (stepped site t loaded) within k),
           )
 
   pub call_accepted : (s : State) (call : Call) → AllAccepted site s (outcome site s call).events
@@ -114,7 +114,7 @@ module _ (site : Site) (sound : T (table_sound site.load_table)) where
       let (kept, clock) = neither (not (within step_limits t)) (not (within clock_limits (s.clock + t))) free.0 in
       let accepted : StepAccepted site s t = record {
         least = (not_outside step_limits t kept).0;
-        clock-most = (not_outside clock_limits (s.clock + t) clock).1;
+        clock_most = (not_outside clock_limits (s.clock + t) clock).1;
         short = free.1.0;
         stays = free.1.1.0;
       } in

@@ -4,8 +4,8 @@ use lib.IntN.{ℤ, pos, ◌+ℤ◌, ◌-ℤ◌}
 use mathlib.Core.List.{List, [], ◌∷◌}
 use mathlib.Core.Path.{◌≡◌, sym, subst, ◌∙◌}
 use Rattle.claims.proofs.Accepted.{Accepted, AllAccepted}
-use Rattle.claims.proofs.Courses.{recorded-state, recorded-solids}
-use Rattle.claims.proofs.Kept.{SoundSite, Kept, holds-map, event_keeps}
+use Rattle.claims.proofs.Courses.{recorded_state, recorded_solids}
+use Rattle.claims.proofs.Kept.{SoundSite, Kept, holds_map, event_keeps}
 use Rattle.laws.specs.Amid.{Between}
 use Rattle.laws.specs.Every.{Every}
 use Rattle.laws.specs.Faces.{Holds}
@@ -88,9 +88,9 @@ module _ (site : Site) (sound : SoundSite site) (start : ℕ) (lo hi : ℤ) (top
   event_bounded (load_set new) y own a k h =
       loaded site (Bounded lo hi y) _ new y.state (widened lo hi y.falls y.rises y.state.load new) h
   event_bounded (step_taken t) y own a k h =
-      subst (AllExcess site (Bounded lo hi y)) (sym (recorded-state site (step_taken t) y own))
+      subst (AllExcess site (Bounded lo hi y)) (sym (recorded_state site (step_taken t) y own))
       (stays_between site _ _ t y.state sound.falls sound.solid
-      (holds-map (first_within lo hi y.falls y.rises) site.top top) (holds-map (first_within lo hi y.falls y.rises) site.bottom bottom)
+      (holds_map (first_within lo hi y.falls y.rises) site.top top) (holds_map (first_within lo hi y.falls y.rises) site.bottom bottom)
       h k.is_on_curve a.short a.stays)
 
   -- along accepted events every excess pressure keeps the bounds of the tally
@@ -99,6 +99,6 @@ module _ (site : Site) (sound : SoundSite site) (start : ℕ) (lo hi : ℤ) (top
   unfolding AllAccepted tallied
   events_bounded [] y own a k h = h
   events_bounded (e ∷ rest) y own a k h =
-      let same = sym (recorded-state site e y own) in
-      events_bounded rest (recorded site e y) (recorded-solids site e y ∙ own) (subst (λ (s : State). AllAccepted site s rest) same a.1)
+      let same = sym (recorded_state site e y own) in
+      events_bounded rest (recorded site e y) (recorded_solids site e y ∙ own) (subst (λ (s : State). AllAccepted site s rest) same a.1)
       (subst (Kept site start) same (event_keeps site sound start e y.state a.0 k)) (event_bounded e y own a.0 k h)

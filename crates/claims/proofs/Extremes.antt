@@ -52,10 +52,10 @@ all-between (z ∷ y ∷ rest) =
     )
 
 -- what holds of what a face holds
-held-holds : (P : ℤ → Type 0) (face : Face) → Every P (held face) → Holds P face
+held_holds : (P : ℤ → Type 0) (face : Face) → Every P (held face) → Holds P face
 unfolding Every held Holds
-held-holds P Closed h = tt
-held-holds P (Drained pressure) h = h.0
+held_holds P Closed h = tt
+held_holds P (Drained pressure) h = h.0
 
 -- the parts of what holds of all pressures that bound
 pub record Bounding (site : Site) (P : ℤ → Type 0) (s : State) : Type 0 where
@@ -71,6 +71,6 @@ bounding site s =
     let (first, above) = (every_append P (excesses site s) (held site.top)).0 front in
     record {
       first = (every_image P (λ e. e.excess) (read_elements site s)).0 first;
-      top = held-holds P site.top above;
-      bottom = held-holds P site.bottom below;
+      top = held_holds P site.top above;
+      bottom = held_holds P site.bottom below;
     }

@@ -10,10 +10,10 @@ use mathlib.Core.Path.{◌≡◌, refl, sym}
 use Rattle.claims.proofs.Kept.{SoundSite, Kept}
 use Rattle.laws.proofs.SoundHeader.{sound_header}
 use Rattle.laws.specs.Every.{Every}
-use Rattle.laws.proofs.Every.{every_map, every-all}
+use Rattle.laws.proofs.Every.{every_map, every_all}
 use Rattle.laws.proofs.Index.{points-length}
 use Rattle.laws.specs.Faces.{Holds}
-use Rattle.laws.proofs.VoidRatio.{water-on_curve}
+use Rattle.laws.proofs.VoidRatio.{water_on_curve}
 use Rattle.numbers.specs.Arrays.{first_places, overlaid}
 use Rattle.numbers.proofs.Equality.{eqℤ→eq, eq→eqℤ}
 use Rattle.numbers.proofs.Filled.{first_length, tabulated, get_or-overlaid}
@@ -34,7 +34,7 @@ use Rattle.quantities.specs.declared.Pressure.{Pressure}
 use Rattle.rules.specs.declared.record.Record.{Record}
 use Rattle.quantities.proofs.Limits.{inside, inside_signed, within_parts}
 use Rattle.rules.proofs.Sound.{falls_down}
-use Rattle.laws.proofs.SiteFacts.{site_by, bottom-within}
+use Rattle.laws.proofs.SiteFacts.{site_by, bottom_within}
 use Rattle.laws.proofs.Sizes.{signed_between}
 use Rattle.laws.proofs.StateFacts.{state_by}
 
@@ -91,22 +91,22 @@ sound_site r f =
     let (kept, solids) = dry site [] (passed f.sizes) in
     let within-levels = (both (levels site) closed kept).0 in
     let (top, bottom) = both (within_ℤ level_limits site.top_level) (within_ℤ level_limits site.bottom_level) within-levels in
-    let each = (every-all (within solids_limits) site.solids).0 solids in
+    let each = (every_all (within solids_limits) site.solids).0 solids in
     record {
       compressibility = passed f.compressibility;
       falls = falls_down r.soil.counts.compressibility r.soil.compressibility_void r.soil.compressibility_stress f.compressibility;
       two =
           rw (points-length r.soil.counts.compressibility r.soil.compressibility_void r.soil.compressibility_stress)
-          header.compressibility-kept.least;
+          header.compressibility_kept.least;
       table = passed f.table;
       solid = every_map (λ S. T (within solids_limits S)) (λ S. 0 < S) (λ S t. omega (arith, (within_parts solids_limits S t).0)) site.solids each;
       small = every_map (λ S. T (within solids_limits S)) (λ S. S ≤ solids_limits.most) (λ S t. (within_parts solids_limits S t).1) site.solids each;
-      few = rw (first_length r.layer.frame.elements r.layer.solids) header.elements-kept.most;
-      light = header.gravity-kept.most;
-      top-holds = holds_of r.layer.frame.top top_pressure f.top;
-      bottom-holds = holds_of r.layer.frame.bottom (bottom_pressure site.top_level site.bottom_level) f.bottom;
+      few = rw (first_length r.layer.frame.elements r.layer.solids) header.elements_kept.most;
+      light = header.gravity_kept.most;
+      top_holds = holds_of r.layer.frame.top top_pressure f.top;
+      bottom_holds = holds_of r.layer.frame.bottom (bottom_pressure site.top_level site.bottom_level) f.bottom;
       held-within =
-          bottom-within site.top_level site.bottom_level (signed_between level_limits site.top_level top)
+          bottom_within site.top_level site.bottom_level (signed_between level_limits site.top_level top)
           (signed_between level_limits site.bottom_level bottom);
     }
 
@@ -120,7 +120,7 @@ water_limited curve Ss [] sound solid small n t = tt
 water_limited curve [] (W ∷ Ws) sound solid small n t = absurd (omega arith)
 water_limited curve (S ∷ Ss) (W ∷ Ws) sound solid small n t =
     let (on, more) = both (on_curve (skeleton_of curve) S (pos W)) (all_on_curve (skeleton_of curve) Ss (map pos Ws)) t in (
-      water-on_curve S solid.0 curve W small.0 sound on,
+      water_on_curve S solid.0 curve W small.0 sound on,
       water_limited curve Ss Ws sound solid.1 small.1 (omega arith) more,
     )
 
@@ -138,7 +138,7 @@ module _ (r : Record) (f : Fixed r) (k : Kept (record_site r) r.layer.frame.star
       water_limited site.compressibility site.solids water sound.compressibility sound.solid sound.small k.size k.is_on_curve in
       let each =
       every_map (λ W. W ≤ water_limits.most) (λ W. T (within water_limits W)) (λ W h. passed (inside water_limits W (omega arith) h)) water most in
-      is_true _ (wet site water (dry site [] (passed f.sizes)) ((every-all (within water_limits) water).1 each))
+      is_true _ (wet site water (dry site [] (passed f.sizes)) ((every_all (within water_limits) water).1 each))
 
   pub is_a_layer : is_layer r ≡ true
   unfolding is_layer
@@ -147,8 +147,8 @@ module _ (r : Record) (f : Fixed r) (k : Kept (record_site r) r.layer.frame.star
       rw (
         site_by r f.header water_sized f.compressibility f.conductivity f.table f.top f.bottom,
         state_by r (is_true _ k.is_on_curve) (inside_signed stress_limits s.load k.load.0 k.load.1)
-            (inside clock_limits s.clock (omega arith) k.clock) f.starting (outflow_kept s.top_outflow s.clock k.top-bound)
-            (outflow_kept s.bottom_outflow s.clock k.bottom-bound) (is_true _ (eq→eqℤ _ _ k.balanced)),
+            (inside clock_limits s.clock (omega arith) k.clock) f.starting (outflow_kept s.top_outflow s.clock k.top_bound)
+            (outflow_kept s.bottom_outflow s.clock k.bottom_bound) (is_true _ (eq→eqℤ _ _ k.balanced)),
       )
 
 -- ---- no call changes it
@@ -173,9 +173,9 @@ own_places list array n e =
     sym (tabulated n _ list 0 e (λ i h. sym (get_or-overlaid list array i 0 (omega arith))))
 
 -- a record with another state has that state, if it has a water height for each element
-pub state-set : (r : Record) (s : State) → length s.water ≡ r.layer.frame.elements → record_state (with_state r s) ≡ s
+pub state_set : (r : Record) (s : State) → length s.water ≡ r.layer.frame.elements → record_state (with_state r s) ≡ s
 unfolding with_state record_state
-state-set r s e = λ i. record {
+state_set r s e = λ i. record {
   water = own_places s.water r.layer.water r.layer.frame.elements e i;
   load = s.load;
   clock = s.clock;
@@ -200,8 +200,8 @@ module _ (r : Record) where
   starting_after [] = refl
   starting_after (e ∷ rest) = refl
 
-  pub state-after : (es : List Event) → length (after_events (record_site r) es (record_state r)).water ≡ r.layer.frame.elements →
+  pub state_after : (es : List Event) → length (after_events (record_site r) es (record_state r)).water ≡ r.layer.frame.elements →
       record_state (with_events r es) ≡ after_events (record_site r) es (record_state r)
   unfolding with_events after_events
-  state-after [] h = refl
-  state-after (e ∷ rest) h = state-set r (after_events (record_site r) (e ∷ rest) (record_state r)) h
+  state_after [] h = refl
+  state_after (e ∷ rest) h = state_set r (after_events (record_site r) (e ∷ rest) (record_state r)) h

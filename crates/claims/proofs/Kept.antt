@@ -32,10 +32,10 @@ use Rattle.quantities.specs.declared.Face.TheVariants.{Closed, Drained}
 -- ---- what faces hold
 
 -- a face that holds some pressure holds what follows of it
-pub holds-map : {P Q : ℤ → Type 0} → ((p : ℤ) → P p → Q p) → (face : Face) → Holds P face → Holds Q face
+pub holds_map : {P Q : ℤ → Type 0} → ((p : ℤ) → P p → Q p) → (face : Face) → Holds P face → Holds Q face
 unfolding Holds
-holds-map f Closed h = tt
-holds-map f (Drained held) h = f held.0 h
+holds_map f Closed h = tt
+holds_map f (Drained held) h = f held.0 h
 
 -- P of a site
 abbrev pub held_below : Site → ℤ
@@ -51,8 +51,8 @@ pub record SoundSite (site : Site) : Type 0 where
   pub small : Every (λ S. S ≤ solids_limits.most) site.solids
   pub few : length site.solids ≤ element_limits.most
   pub light : site.gravity ≤ gravity_limits.most
-  pub top-holds : Holds (λ p. p ≡ pos 0) site.top
-  pub bottom-holds : Holds (λ p. p ≡ held_below site) site.bottom
+  pub top_holds : Holds (λ p. p ≡ pos 0) site.top
+  pub bottom_holds : Holds (λ p. p ≡ held_below site) site.bottom
   pub held-within : Within (held_below site) most_head_pressure
 
 -- what a state keeps, on a site and since a starting water
@@ -61,8 +61,8 @@ pub record Kept (site : Site) (start : ℕ) (s : State) : Type 0 where
   pub is_on_curve : T (all_on_curve (skeleton site) site.solids (map pos s.water))
   pub load : LoadKept s.load
   pub clock : s.clock ≤ clock_limits.most
-  pub top-bound : Within s.top_outflow (outflow_rate * s.clock)
-  pub bottom-bound : Within s.bottom_outflow (outflow_rate * s.clock)
+  pub top_bound : Within s.top_outflow (outflow_rate * s.clock)
+  pub bottom_bound : Within s.bottom_outflow (outflow_rate * s.clock)
   pub balanced : pos start ≡ pos (sum s.water) +ℤ s.top_outflow +ℤ s.bottom_outflow
 
 -- heights on the curve are the new heights, as none is negative
@@ -86,8 +86,8 @@ module _ (site : Site) (sound : SoundSite site) (start : ℕ) where
     is_on_curve = k.is_on_curve;
     load = h;
     clock = k.clock;
-    top-bound = k.top-bound;
-    bottom-bound = k.bottom-bound;
+    top_bound = k.top_bound;
+    bottom_bound = k.bottom_bound;
     balanced = k.balanced;
   }
 
@@ -96,8 +96,8 @@ module _ (site : Site) (sound : SoundSite site) (start : ℕ) where
   step_keeps t s a k =
       let (enters, leaves) =
       outflow_within site s t a.least (steep_positive site.compressibility sound.falls sound.two) sound.solid
-      (holds-map (λ p e. subst (λ (z : ℤ). Within z most_head_pressure) (sym e) (within_le (within_pos 0) (lit≤ tt))) site.top sound.top-holds)
-      (holds-map (λ p e. subst (λ (z : ℤ). Within z most_head_pressure) (sym e) sound.held-within) site.bottom sound.bottom-holds)
+      (holds_map (λ p e. subst (λ (z : ℤ). Within z most_head_pressure) (sym e) (within_le (within_pos 0) (lit≤ tt))) site.top sound.top_holds)
+      (holds_map (λ p e. subst (λ (z : ℤ). Within z most_head_pressure) (sym e) sound.held-within) site.bottom sound.bottom_holds)
       (excesses-within site sound.compressibility s k.load sound.light sound.small sound.few) a.short
       in
       record {
@@ -106,9 +106,9 @@ module _ (site : Site) (sound : SoundSite site) (start : ℕ) where
             heights_on (skeleton site) site.solids s.water (moved (upward_flows site.top site.bottom t (read_elements site s)) s.water)
             (stays_on site s t a.stays);
         load = k.load;
-        clock = a.clock-most;
-        top-bound = within_le (within-add k.top-bound leaves) (omega arith);
-        bottom-bound = within_le (within-sub k.bottom-bound enters) (omega arith);
+        clock = a.clock_most;
+        top_bound = within_le (within-add k.top_bound leaves) (omega arith);
+        bottom_bound = within_le (within-sub k.bottom_bound enters) (omega arith);
         balanced = k.balanced ∙ sym (balance site t s k.size a.stays);
       }
 

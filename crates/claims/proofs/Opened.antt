@@ -14,7 +14,7 @@ use Rattle.claims.proofs.Described.{Described, described_sound, fixed_opened}
 use Rattle.claims.proofs.Fixed.{sound_site, water_limited, own_places}
 use Rattle.claims.proofs.Kept.{SoundSite, Kept}
 use Rattle.claims.proofs.Stands.{Stands}
-use Rattle.claims.proofs.Starts.{Starts, water-starts, started_parts}
+use Rattle.claims.proofs.Starts.{Starts, water_starts, started_parts}
 use Rattle.laws.proofs.Every.{every_at}
 use Rattle.numbers.proofs.Filled.{first_length}
 use Rattle.numbers.proofs.Interval.{within_pos, within_le}
@@ -107,7 +107,7 @@ module _ (d : Description) (s : Described d) (water : List ℕ) (starts : descri
   on : Starts (skeleton site) site.solids water
   unfolding description_water
   on =
-      water-starts (skeleton site) (opening_load site) (burdens site.gravity site.solids) site.solids (rests_over site.bottom site.top_level site.bottom_level) d.header.start (given_water d) water
+      water_starts (skeleton site) (opening_load site) (burdens site.gravity site.solids) site.solids (rests_over site.bottom site.top_level site.bottom_level) d.header.start (given_water d) water
       (burdens-length site.gravity site.solids) (given_many ∙ sym solids_many) starts
 
   -- the starting water is within its limits
@@ -118,19 +118,19 @@ module _ (d : Description) (s : Described d) (water : List ℕ) (starts : descri
       let total = sum_le water_limits.most water (λ i h. every_at (λ W. W ≤ water_limits.most) water i 0 each h) in
       omega (arith, on.size, sound.few)
 
-  opening-load : LoadKept (pos (opening_load site))
+  opening_load_lem : LoadKept (pos (opening_load site))
   unfolding opening_load
-  opening-load = sound_first site.load_table sound.table
+  opening_load_lem = sound_first site.load_table sound.table
 
   kept : Kept site (sum water) (opening_state site water)
   unfolding opening_state
   kept = record {
     size = on.size;
     is_on_curve = on.is_on_curve;
-    load = opening-load;
+    load = opening_load_lem;
     clock = omega arith;
-    top-bound = within_le (within_pos 0) (omega arith);
-    bottom-bound = within_le (within_pos 0) (omega arith);
+    top_bound = within_le (within_pos 0) (omega arith);
+    bottom_bound = within_le (within_pos 0) (omega arith);
     balanced = sym (+ℤ_idr (pos (sum water) +ℤ pos 0) ∙ +ℤ_idr (pos (sum water)));
   }
 
@@ -144,7 +144,7 @@ module _ (d : Description) (s : Described d) (water : List ℕ) (starts : descri
   opened_stands = record {
     fixed = fixed_opened d s water few;
     site_is = refl;
-    state-is = state_opened;
+    state_is = state_opened;
     starting_is = refl;
     kept = kept;
   }

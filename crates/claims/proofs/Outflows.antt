@@ -7,9 +7,9 @@ use mathlib.Core.List.{List, [], ◌∷◌}
 use mathlib.Core.Logic.{◌⊎◌, inl, inr}
 use mathlib.Core.Path.{◌≡◌, sym, ap, subst, ◌∙◌}
 use Rattle.claims.proofs.Accepted.{StepAccepted, Accepted, AllAccepted}
-use Rattle.claims.proofs.Courses.{recorded-state}
+use Rattle.claims.proofs.Courses.{recorded_state}
 use Rattle.claims.proofs.Excesses.{AllExcess, loaded}
-use Rattle.claims.proofs.Kept.{SoundSite, Kept, holds-map, event_keeps}
+use Rattle.claims.proofs.Kept.{SoundSite, Kept, holds_map, event_keeps}
 use Rattle.laws.proofs.Amid.{at_least}
 use Rattle.laws.specs.Every.{Every}
 use Rattle.laws.proofs.Flow.{flow_forward}
@@ -60,14 +60,14 @@ module _ (top : Face) (t : ℕ) (zero : HoldsZero top) where
 
 module _ (site : Site) (sound : SoundSite site) (start : ℕ) (below : HoldsZero site.bottom) where
   holds_none : (face : Face) → HoldsZero face → Holds NotNegative face
-  holds_none = holds-map (λ p e. omega (signed, e))
+  holds_none = holds_map (λ p e. omega (signed, e))
 
   -- a step from a state with no negative excess pressure lowers no outflow, and leads to another
   step_not_lowered : (t : ℕ) (s : State) → AllExcess site NotNegative s → NotLowered (record { before = s; later = stepped site t s })
   unfolding stepped
   step_not_lowered t s p =
       let flows = upward_flows site.top site.bottom t (read_elements site s) in
-      let (enters, leaves) = outer_forward site.top t sound.top-holds site.bottom (read_elements site s) below p in (
+      let (enters, leaves) = outer_forward site.top t sound.top_holds site.bottom (read_elements site s) below p in (
         omega (signed, leaves, add_parts s.top_outflow (last_or (pos 0) flows)),
         omega (signed, enters, sub_parts s.bottom_outflow (first_or (pos 0) flows)),
       )
@@ -76,7 +76,7 @@ module _ (site : Site) (sound : SoundSite site) (start : ℕ) (below : HoldsZero
       AllExcess site NotNegative (stepped site t s)
   unfolding site_steepness
   step_not_negative t s a k p =
-      spread site (at_least (pos 0)) (stress_fall site.compressibility sound.falls) t s sound.solid (holds_none site.top sound.top-holds)
+      spread site (at_least (pos 0)) (stress_fall site.compressibility sound.falls) t s sound.solid (holds_none site.top sound.top_holds)
       (holds_none site.bottom below) p k.is_on_curve a.short a.stays
 
   -- falls only grow
@@ -87,26 +87,26 @@ module _ (site : Site) (sound : SoundSite site) (start : ℕ) (below : HoldsZero
   falls_grow (step_taken t ∷ rest) y = falls_grow rest (recorded site (step_taken t) y)
 
   -- along accepted events, if the load never falls, no step lowers an outflow
-  pub events-not_lowered : (es : List Event) (y : Tally) → y.solids ≡ site.solids → AllAccepted site y.state es →
+  pub events_not_lowered : (es : List Event) (y : Tally) → y.solids ≡ site.solids → AllAccepted site y.state es →
       Kept site start y.state → AllExcess site NotNegative y.state → (tallied site es y).falls ≤ y.falls →
       Every NotLowered (step_traces site es y.state)
   unfolding AllAccepted Accepted Every tallied recorded step_traces after_event
-  events-not_lowered [] y own a k p h = tt
-  events-not_lowered (load_set new ∷ rest) y own a k p h =
+  events_not_lowered [] y own a k p h = tt
+  events_not_lowered (load_set new ∷ rest) y own a k p h =
       let s = y.state in
       let next = recorded site (load_set new) y in
       let grown = falls_grow rest next in
       let up =
       loaded site NotNegative NotNegative new s
       (λ q n. omega (signed, n, add_parts q (new -ℤ s.load), sub_parts new s.load, sub_parts s.load new)) p in
-      events-not_lowered rest next own a.1 (event_keeps site sound start (load_set new) s a.0 k) up (omega arith)
-  events-not_lowered (step_taken t ∷ rest) y own a k p h =
+      events_not_lowered rest next own a.1 (event_keeps site sound start (load_set new) s a.0 k) up (omega arith)
+  events_not_lowered (step_taken t ∷ rest) y own a k p h =
       let s = y.state in
       let next = recorded site (step_taken t) y in
-      let same = recorded-state site (step_taken t) y own in (
+      let same = recorded_state site (step_taken t) y own in (
         step_not_lowered t s p,
         subst (λ (s : State). Every NotLowered (step_traces site rest s)) same
-            (events-not_lowered rest next own (subst (λ (s : State). AllAccepted site s rest) (sym same) a.1)
+            (events_not_lowered rest next own (subst (λ (s : State). AllAccepted site s rest) (sym same) a.1)
             (subst (Kept site start) (sym same) (event_keeps site sound start (step_taken t) s a.0 k))
             (subst (AllExcess site NotNegative) (sym same) (step_not_negative t s a.0 k p)) h),
       )
@@ -116,5 +116,5 @@ pub level_zero : (site : Site) → SoundSite site → (site.bottom ≡ Closed) �
 unfolding Holds bottom_pressure pressure_of
 level_zero site sound (inl e) = subst HoldsZero (sym e) tt
 level_zero site sound (inr e) =
-    holds-map (λ p q. q ∙ ap (λ (z : ℤ). (bottom_pressure site.top_level z).0) e ∙ rw (+ℤ_invr site.top_level)) site.bottom
-    sound.bottom-holds
+    holds_map (λ p q. q ∙ ap (λ (z : ℤ). (bottom_pressure site.top_level z).0) e ∙ rw (+ℤ_invr site.top_level)) site.bottom
+    sound.bottom_holds

@@ -4,7 +4,7 @@ use mathlib.Core.List.{List, [], ◌∷◌}
 use mathlib.Core.Path.{◌≡◌, refl, sym, ap, subst, ◌∙◌}
 use Rattle.claims.proofs.Accepted.{AllAccepted}
 use Rattle.claims.proofs.Events.{call_accepted}
-use Rattle.claims.proofs.Courses.{tally_own, tallied-state, tallied-solids}
+use Rattle.claims.proofs.Courses.{tally_own, tallied_state, tallied_solids}
 use Rattle.claims.proofs.Stands.{Stands, site_sound, stands_layer, stands_after}
 use Rattle.rules.specs.Calls.{called, replayed}
 use Rattle.rules.specs.Layer.{Site, State}
@@ -21,7 +21,7 @@ module _ (site : Site) (start : ℕ) where
   pub called_standing : (s : State) (r : Record) (call : Call) → Stands site start s r →
       called r call ≡ record { answer = (outcome site s call).answer; after = with_events r (outcome site s call).events }
   unfolding called
-  called_standing s r call h = rw (stands_layer site start s r h, called, h.site_is, h.state-is)
+  called_standing s r call h = rw (stands_layer site start s r h, called, h.site_is, h.state_is)
 
   -- a list of calls does what the tally says
   pub record Follows (calls : List Call) (r : Record) (y : Tally) : Type 0 where
@@ -41,7 +41,7 @@ module _ (site : Site) (start : ℕ) where
       rw as-site (call_accepted site (site_sound site start s r h).table s call) in
       let next = stands_after site start s r h o.events accepted in
       let after = tallied site o.events y in
-      let more = follows rest (with_events r o.events) after (tallied-solids site o.events y ∙ own) (rw (tallied-state site o.events y own) next) in
+      let more = follows rest (with_events r o.events) after (tallied_solids site o.events y ∙ own) (rw (tallied_state site o.events y own) next) in
       record {
         answers =
             ap (λ (a : Answered). a.answer ∷ (replayed a.after rest).answers) e ∙

@@ -5,7 +5,7 @@ use mathlib.Core.Bool.{true}
 use mathlib.Core.List.{List}
 use mathlib.Core.Path.{◌≡◌, sym, ap, ◌∙◌}
 use Rattle.claims.proofs.Accepted.{AllAccepted}
-use Rattle.claims.proofs.Fixed.{Fixed, sound_site, is_a_layer, fixed_after, site_after, starting_after, state-after}
+use Rattle.claims.proofs.Fixed.{Fixed, sound_site, is_a_layer, fixed_after, site_after, starting_after, state_after}
 use Rattle.claims.proofs.Kept.{SoundSite, Kept, events_keep}
 use Rattle.numbers.proofs.Filled.{first_length}
 use Rattle.rules.specs.Layer.{Site, State}
@@ -16,7 +16,7 @@ use Rattle.rules.specs.declared.record.Record.{Record}
 pub record Stands (site : Site) (start : ℕ) (s : State) (r : Record) : Type 0 where
   pub fixed : Fixed r
   pub site_is : record_site r ≡ site
-  pub state-is : record_state r ≡ s
+  pub state_is : record_state r ≡ s
   pub starting_is : r.layer.frame.starting_water ≡ start
   pub kept : Kept site start s
 
@@ -31,7 +31,7 @@ module _ (site : Site) (start : ℕ) (s : State) (r : Record) (h : Stands site s
 
   -- it is a layer
   pub stands_layer : is_layer r ≡ true
-  stands_layer = is_a_layer r h.fixed (rw (h.site_is, h.state-is, h.starting_is) h.kept)
+  stands_layer = is_a_layer r h.fixed (rw (h.site_is, h.state_is, h.starting_is) h.kept)
 
   -- and stays one along accepted events
   pub stands_after : (es : List Event) → AllAccepted site s es → Stands site start (after_events site es s) (with_events r es)
@@ -41,7 +41,7 @@ module _ (site : Site) (start : ℕ) (s : State) (r : Record) (h : Stands site s
       record {
         fixed = fixed_after r es h.fixed;
         site_is = site_after r es ∙ h.site_is;
-        state-is = rw (h.site_is, h.state-is) at (state-after r es (rw (h.site_is, h.state-is) size));
+        state_is = rw (h.site_is, h.state_is) at (state_after r es (rw (h.site_is, h.state_is) size));
         starting_is = starting_after r es ∙ h.starting_is;
         kept = kept;
       }

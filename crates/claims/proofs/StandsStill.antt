@@ -14,8 +14,8 @@ use Rattle.claims.proofs.Opened.{opened, opened_record_lem}
 use Rattle.claims.proofs.Replay.{called_standing}
 use Rattle.claims.proofs.Stands.{site_sound, stands_after}
 use Rattle.claims.specs.StandsStill.{Still, StandsStill}
-use Rattle.laws.proofs.Every.{every-all, every_map}
-use Rattle.laws.proofs.Lengths.{above-length, elements-length}
+use Rattle.laws.proofs.Every.{every_all, every_map}
+use Rattle.laws.proofs.Lengths.{above_length, elements_length}
 use Rattle.laws.specs.Every.{Every}
 use Rattle.numbers.proofs.Interval.{intervals}
 use Rattle.numbers.proofs.Searches.{passed}
@@ -68,13 +68,13 @@ AnyNear flows = Every (λ a. Every (λ b. T (near a b)) flows) flows
 any-near : (flows : List ℤ) → T (steady_flows flows) → AnyNear flows
 unfolding steady_flows any_two
 any-near flows t =
-    every_map (λ a. T (all (near a) flows)) (λ a. Every (λ b. T (near a b)) flows) (λ a. (every-all (near a) flows).0) flows
-    ((every-all (λ a. all (near a) flows) flows).0 t)
+    every_map (λ a. T (all (near a) flows)) (λ a. Every (λ b. T (near a b)) flows) (λ a. (every_all (near a) flows).0) flows
+    ((every_all (λ a. all (near a) flows) flows).0 t)
 
 -- and so are any two above the lowest
-above-near : (below : ℤ) (flows : List ℤ) → AnyNear (below ∷ flows) → AnyNear flows
+above_near : (below : ℤ) (flows : List ℤ) → AnyNear (below ∷ flows) → AnyNear flows
 unfolding Every
-above-near below flows near-all =
+above_near below flows near-all =
     every_map (λ a. Every (λ b. T (near a b)) (below ∷ flows)) (λ a. Every (λ b. T (near a b)) flows) (λ a h. h.1) flows near-all.1
 
 moved-near : (below : ℤ) (flows : List ℤ) (water : List ℕ) → length flows ≡ length water → AnyNear (below ∷ flows) →
@@ -85,23 +85,23 @@ moved-near below [] (W ∷ water) n near-all j = absurd (omega arith)
 moved-near below (above ∷ rest) [] n near-all j = absurd (omega arith)
 moved-near below (above ∷ rest) (W ∷ water) n near-all zero = height-near W below above near-all.0.1.0
 moved-near below (above ∷ rest) (W ∷ water) n near-all (suc j) =
-    moved-near above rest water (omega arith) (above-near below (above ∷ rest) near-all) j
+    moved-near above rest water (omega arith) (above_near below (above ∷ rest) near-all) j
 
 -- ---- a layer
 
-flows-near : (top bottom : Face) (t : ℕ) (es : List Element) (water : List ℕ) → length es ≡ length water →
+flows_near : (top bottom : Face) (t : ℕ) (es : List Element) (water : List ℕ) → length es ≡ length water →
     T (steady_flows (upward_flows top bottom t es)) → Still water (paired new_height water (moved (upward_flows top bottom t es) water))
 unfolding upward_flows moved
-flows-near top bottom t [] [] n is = λ j. unmoved 0
-flows-near top bottom t [] (W ∷ water) n is = absurd (omega arith)
-flows-near top bottom t (e ∷ rest) water n is =
-    moved-near (neg_ℤ (outward bottom t e)) (flows_above top t (e ∷ rest)) water (above-length top t (e ∷ rest) ∙ n)
+flows_near top bottom t [] [] n is = λ j. unmoved 0
+flows_near top bottom t [] (W ∷ water) n is = absurd (omega arith)
+flows_near top bottom t (e ∷ rest) water n is =
+    moved-near (neg_ℤ (outward bottom t e)) (flows_above top t (e ∷ rest)) water (above_length top t (e ∷ rest) ∙ n)
     (any-near (neg_ℤ (outward bottom t e) ∷ flows_above top t (e ∷ rest)) is)
 
 module _ (site : Site) (s : State) (size : length s.water ≡ length site.solids) (is : steady site s ≡ true) where
   step_still : Still s.water (stepped site steady_seconds s).water
   unfolding stepped steady
-  step_still = flows-near site.top site.bottom steady_seconds (read_elements site s) s.water (elements-length site s size) (passed is)
+  step_still = flows_near site.top site.bottom steady_seconds (read_elements site s) s.water (elements_length site s size) (passed is)
 
   -- whether the step is accepted or not
   pub called-still : Still s.water (after_events site (outcome site s (Step steady_seconds)).events s).water
@@ -128,4 +128,4 @@ stands_still job done two =
     let is : steady site s ≡ true = steady_opened (described job) o.water two o.steadied in
     let events = (outcome site s (Step steady_seconds)).events in
     let after = stands_after site (sum o.water) s r h events (call_accepted site (site_sound site (sum o.water) s r h).table s (Step steady_seconds)) in
-    rw (called_standing site (sum o.water) s r (Step steady_seconds) h, h.state-is, after.state-is) (called-still site s h.kept.size is)
+    rw (called_standing site (sum o.water) s r (Step steady_seconds) h, h.state_is, after.state_is) (called-still site s h.kept.size is)

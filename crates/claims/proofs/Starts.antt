@@ -39,9 +39,9 @@ pub record Starts (soil : Skeleton) (Ss water : List ℕ) : Type 0 where
   pub is_on_curve : T (all_on_curve soil Ss (map pos water))
 
 -- resting water is on the curve
-resting-on : (soil : Skeleton) (S stress W : ℕ) → resting_water soil S stress ≡ some W → T (on_curve soil S (pos W))
+resting_on : (soil : Skeleton) (S stress W : ℕ) → resting_water soil S stress ≡ some W → T (on_curve soil S (pos W))
 unfolding resting_water on_curve
-resting-on soil S stress W e =
+resting_on soil S stress W e =
     (at_most_parts (effective_stress soil S W) stress
     (least_passes (λ U. at_most (effective_stress soil S U) stress) (suc water_limits.most) 0 W e)).0
 
@@ -52,17 +52,17 @@ module _ (soil : Skeleton) (load : ℕ) where
   under_on B S W e = go (leb (load + B) (last_stress soil.compressibility)) e
     where
       go : (c : Bool) → elim c as (λ _. Option ℕ) [ true ↦ resting_water soil S (load + B) | false ↦ none ] ≡ some W → T (on_curve soil S (pos W))
-      go true e = resting-on soil S (load + B) W e
+      go true e = resting_on soil S (load + B) W e
       go false e = absurd (none_some W e)
 
   -- water at rest is
-  resting-starts : (Bs Ss water : List ℕ) → length Bs ≡ length Ss → resting_from soil load Bs Ss ≡ some water → Starts soil Ss water
+  resting_starts : (Bs Ss water : List ℕ) → length Bs ≡ length Ss → resting_from soil load Bs Ss ≡ some water → Starts soil Ss water
   unfolding resting_from all_on_curve prepended
-  resting-starts [] [] water n e = let same : [] ≡ water = cc in subst (Starts soil []) same (record { size = refl; is_on_curve = tt })
-  resting-starts [] (S ∷ Ss) water n e = absurd (omega arith)
-  resting-starts (B ∷ Bs) [] water n e = absurd (omega arith)
-  resting-starts (B ∷ Bs) (S ∷ Ss) water n e =
-      each (resting_under soil load B S) (resting_from soil load Bs Ss) refl refl e (λ more. resting-starts Bs Ss more (omega arith))
+  resting_starts [] [] water n e = let same : [] ≡ water = cc in subst (Starts soil []) same (record { size = refl; is_on_curve = tt })
+  resting_starts [] (S ∷ Ss) water n e = absurd (omega arith)
+  resting_starts (B ∷ Bs) [] water n e = absurd (omega arith)
+  resting_starts (B ∷ Bs) (S ∷ Ss) water n e =
+      each (resting_under soil load B S) (resting_from soil load Bs Ss) refl refl e (λ more. resting_starts Bs Ss more (omega arith))
     where
       Later : Type 0
       Later = (more : List ℕ) → resting_from soil load Bs Ss ≡ some more → Starts soil Ss more
@@ -81,10 +81,10 @@ module _ (soil : Skeleton) (load : ℕ) where
           })
 
   -- the water of any start is
-  pub water-starts : (Bs Ss : List ℕ) (may_rest : Bool) (start : ℕ) (given water : List ℕ) → length Bs ≡ length Ss → length given ≡ length Ss →
+  pub water_starts : (Bs Ss : List ℕ) (may_rest : Bool) (start : ℕ) (given water : List ℕ) → length Bs ≡ length Ss → length given ≡ length Ss →
       start_water soil Bs Ss may_rest start given load ≡ some water → Starts soil Ss water
   unfolding start_water
-  water-starts Bs Ss may_rest start given water many n e = either (eqb start 1) may_rest e
+  water_starts Bs Ss may_rest start given water many n e = either (eqb start 1) may_rest e
     where
       on : (c : Bool) → all_on_curve soil Ss (map pos given) ≡ c → cond c (some given) none ≡ some water → Starts soil Ss water
       on true p e = let same : given ≡ water = cc in subst (Starts soil Ss) same (record { size = n; is_on_curve = passed p })
@@ -94,7 +94,7 @@ module _ (soil : Skeleton) (load : ℕ) where
           cond rest (cond may_rest (resting_from soil load Bs Ss) none) (cond (all_on_curve soil Ss (map pos given)) (some given) none) ≡ some water →
           Starts soil Ss water
       either false may_rest e = on (all_on_curve soil Ss (map pos given)) refl e
-      either true true e = resting-starts Bs Ss water many e
+      either true true e = resting_starts Bs Ss water many e
       either true false e = absurd (none_some water e)
 
 -- ---- what a description's start gives

@@ -22,8 +22,8 @@ later a b = ltb a.abscissa b.abscissa
 abbrev limited : Point → Bool
 limited p = within clock_limits p.abscissa && within stress_limits p.ordinate
 
-ordinate-most : (p : Point) → T (limited p) → p.ordinate ≤ stress_limits.most
-ordinate-most p t =
+ordinate_most : (p : Point) → T (limited p) → p.ordinate ≤ stress_limits.most
+ordinate_most p t =
     (within_parts stress_limits p.ordinate (both (within clock_limits p.abscissa) (within stress_limits p.ordinate) t).1).1
 
 -- its load at a time
@@ -31,7 +31,7 @@ table_load : (table : List Point) (now : ℕ) → T (neighbours later table) →
 unfolding load_at neighbours all
 table_load [] now rises kept = (omega signed, omega signed)
 table_load (a ∷ []) now rises kept =
-    let most = ordinate-most a (both (limited a) (all limited []) kept).0 in (omega signed, omega signed)
+    let most = ordinate_most a (both (limited a) (all limited []) kept).0 in (omega signed, omega signed)
 table_load (a ∷ b ∷ rest) now rises kept =
     let (here, above) = both (later a b) (neighbours later (b ∷ rest)) rises in
     let (first, others) = both (limited a) (all limited (b ∷ rest)) kept in
@@ -46,7 +46,7 @@ table_load (a ∷ b ∷ rest) now rises kept =
     (λ before.
     let soon = ltb→lt now b.abscissa before in
     segment_stress a.ordinate b.ordinate (now - a.abscissa) (b.abscissa - a.abscissa) (omega arith) (omega arith)
-    stress_limits.most (ordinate-most a first) (ordinate-most b next))
+    stress_limits.most (ordinate_most a first) (ordinate_most b next))
     (λ _. ih)
 
 -- and its first
@@ -54,7 +54,7 @@ first_load : (table : List Point) → T (all limited table) → LoadKept (pos (f
 unfolding all first_point
 first_load [] kept = (omega signed, omega signed)
 first_load (a ∷ rest) kept =
-    let most = ordinate-most a (both (limited a) (all limited rest) kept).0 in (omega signed, omega signed)
+    let most = ordinate_most a (both (limited a) (all limited rest) kept).0 in (omega signed, omega signed)
 
 module _ (table : List Point) (t : T (table_sound table)) where
   table_parts : T (neighbours later table) × T (all limited table)

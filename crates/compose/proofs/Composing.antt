@@ -29,9 +29,9 @@ module _ (input buffer words : List ℕ) (number : ℕ) (out : List ℕ) (blank 
   returned_is : written_words (words_in words_length input) (zeros job_most) ≡ x
   returned_is = (λ i. written_words (sym read i) (sym blank i)) ∙ (λ i. record { number = sym number_is i; buffer = sym out_is i })
 
-  composed-is : (refused : Bool) → ltb number header_length ≡ refused → composed input ≡ written x refused
+  composed_is : (refused : Bool) → ltb number header_length ≡ refused → composed input ≡ written x refused
   unfolding composed
-  composed-is refused e =
+  composed_is refused e =
       ap (λ (x : Returned). written x (ltb x.number header_length)) returned_is ∙ ap (λ (b : Bool). written x b) e
 
   told : Told buffer x
@@ -42,12 +42,12 @@ module _ (input buffer words : List ℕ) (number : ℕ) (out : List ℕ) (blank 
       (out ≡ overlaid (composed input) buffer) × (number ≡ length (composed input))
   job_composed kept h =
       let few = told.fits h in
-      rw (composed-is false (le-ltb number header_length h)) (told.past h, sym (length-take-le number out (omega arith)))
+      rw (composed_is false (le-ltb number header_length h)) (told.past h, sym (length-take-le number out (omega arith)))
 
   -- a refusal: its line
-  pub refusal-composed : (last : List ℕ) (size : ℕ) → number < header_length →
+  pub refusal_composed : (last : List ℕ) (size : ℕ) → number < header_length →
       (last ≡ overlaid (refused_line number) out) × (size ≡ length (refused_line number)) →
       (last ≡ overlaid (composed input) buffer) × (size ≡ length (composed input))
-  refusal-composed last size h line =
-      let whole : out ≡ buffer = told.refused-whole h in
-      rw (composed-is true (lt-ltb number header_length h), ← whole) line
+  refusal_composed last size h line =
+      let whole : out ≡ buffer = told.refused_whole h in
+      rw (composed_is true (lt-ltb number header_length h), ← whole) line

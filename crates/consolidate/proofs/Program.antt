@@ -14,8 +14,8 @@ use Rattle.claims.proofs.Described.{described_sound}
 use Rattle.claims.proofs.Causes.{neither, none_holds}
 use Rattle.claims.proofs.Opened.{opening_either, opened}
 use Rattle.laws.specs.Every.{Every}
-use Rattle.laws.proofs.SoundHeader.{kept-header}
-use Rattle.key.proofs.KeyLaws.{key-refused, key-leaves}
+use Rattle.laws.proofs.SoundHeader.{kept_header}
+use Rattle.key.proofs.KeyLaws.{key-refused, key_leaves}
 use Rattle.numbers.specs.Arrays.{zeros, overlaid}
 use Rattle.rules.specs.Job.{described, header_length, marked, framing_causes, job_causes}
 use Rattle.rules.specs.Key.{key}
@@ -51,7 +51,7 @@ module _ (job buffer : List ℕ) (e : (key job buffer).number ≡ 0) where
 
   -- which says at most 128 elements
   pub elements_few : (described job).header.elements ≤ element_limits.most
-  elements_few = (kept-header (described job).header (described_sound job (opened job accepted).no_cause).header).elements-kept.most
+  elements_few = (kept_header (described job).header (described_sound job (opened job accepted).no_cause).header).elements_kept.most
 
   -- whose result is no longer than the longest
   pub size_few : result_size (described job).header.elements ≤ result_most
@@ -94,13 +94,13 @@ module _ (job buffer : List ℕ) (short : length job ≤ input_most) (blank : bu
       let zero : (key job (zeros result_most)).number ≡ 0 = rw (← blank) (sym number_is ∙ e) in
       rw (s, out_is, blank) (sym (by_test job short true (eq-eqb _ 0 zero)))
 
-  pub result-written : (size : ℕ) → number ≡ 0 → size ≡ result_size (described job).header.elements → length out ≡ length buffer →
+  pub result_written : (size : ℕ) → number ≡ 0 → size ≡ result_size (described job).header.elements → length out ≡ length buffer →
       (out ≡ overlaid (program_output job) buffer) × (size ≡ length (program_output job))
-  result-written size e s kept =
+  result_written size e s kept =
       let front = front_is size e s in
       let few = size_few job buffer (sym number_is ∙ e) in
       let fits : size ≤ length out = omega (arith, s, few, room_is blank, kept) in
-      (rw (← front, s, out_is) (key-leaves job buffer).past, rw (← front) (sym (length-take-le size out fits)))
+      (rw (← front, s, out_is) (key_leaves job buffer).past, rw (← front) (sym (length-take-le size out fits)))
 
   -- any other: the refusal
   refusal_is : (number ≡ 0 → ⊥) → refused_line number ≡ program_output job
@@ -108,9 +108,9 @@ module _ (job buffer : List ℕ) (short : length job ≤ input_most) (blank : bu
       let same : number ≡ (key job (zeros result_most)).number = rw (← blank) number_is in
       rw same (sym (by_test job short false (ne_eqb _ 0 (λ z. h (same ∙ z)))))
 
-  pub refusal-written : (last : List ℕ) (size : ℕ) → (number ≡ 0 → ⊥) →
+  pub refusal_written : (last : List ℕ) (size : ℕ) → (number ≡ 0 → ⊥) →
       (last ≡ overlaid (refused_line number) out) × (size ≡ length (refused_line number)) →
       (last ≡ overlaid (program_output job) buffer) × (size ≡ length (program_output job))
-  refusal-written last size h line =
-      let left : out ≡ buffer = out_is ∙ (key-leaves job buffer).refused-whole (rw number_is at h) in
+  refusal_written last size h line =
+      let left : out ≡ buffer = out_is ∙ (key_leaves job buffer).refused_whole (rw number_is at h) in
       (line.0 ∙ rw (refusal_is h, left) refl, line.1 ∙ ap length (refusal_is h))

@@ -53,8 +53,8 @@ module _ (n : ℕ) (xs ys : List ℕ) (x i : ℕ) where
       (distance (get_or xs i 0) x ≤ distance (get_or xs i 0) (get_or xs (i + 1) 0)))
   interpolable smooth h e =
       let near = spans-near (get_or xs i 0) (get_or xs (i + 1) 0) x (get_or ys i 0) (get_or ys (i + 1) 0) e in (
-        (smooth.apart i h, omega (arith, smooth.abscissa-most i (omega arith), smooth.abscissa-most (i + 1) h)),
-        ((smooth.higher i h, smooth.ordinate-most (i + 1) h), near),
+        (smooth.apart i h, omega (arith, smooth.abscissa_most i (omega arith), smooth.abscissa_most (i + 1) h)),
+        ((smooth.higher i h, smooth.ordinate_most (i + 1) h), near),
       )
 
   -- the first segment from here spans x, or not, or there is none
@@ -63,10 +63,10 @@ module _ (n : ℕ) (xs ys : List ℕ) (x i : ℕ) where
   unfolding curve_at
   read_here h e is = rw (is, from_segment n xs ys i h, e, curve_at)
 
-  pub read-on : i + 1 < n → spans (at n xs ys i) (at n xs ys (i + 1)) x ≡ false →
+  pub read_on : i + 1 < n → spans (at n xs ys i) (at n xs ys (i + 1)) x ≡ false →
       curve_at (drop i (points n xs ys)) x ≡ curve_at (drop (i + 1) (points n xs ys)) x
   unfolding curve_at
-  read-on h e = rw (from_segment n xs ys i h, from_point n xs ys (i + 1) h, e, curve_at)
+  read_on h e = rw (from_segment n xs ys i h, from_point n xs ys (i + 1) h, e, curve_at)
 
   pub read_end : n ≤ i + 1 → curve_at (drop i (points n xs ys)) x ≡ Off
   unfolding curve_at
@@ -82,11 +82,11 @@ module _ (n : ℕ) (xs ys : List ℕ) (x i : ℕ) where
   unfolding segment_at
   found_here h e so = let here : segment_at (drop i (points n xs ys)) x ≡ 0 = rw (from_segment n xs ys i h, e, segment_at) in omega (arith, so, here)
 
-  pub found-on : i + 1 < n → spans (at n xs ys i) (at n xs ys (i + 1)) x ≡ false →
+  pub found_on : i + 1 < n → spans (at n xs ys i) (at n xs ys (i + 1)) x ≡ false →
       segment_at (points n xs ys) x ≡ i + segment_at (drop i (points n xs ys)) x →
       segment_at (points n xs ys) x ≡ i + 1 + segment_at (drop (i + 1) (points n xs ys)) x
   unfolding segment_at
-  found-on h e so =
+  found_on h e so =
       let on : segment_at (drop i (points n xs ys)) x ≡ suc (segment_at (drop (i + 1) (points n xs ys)) x) =
       rw (from_segment n xs ys i h, from_point n xs ys (i + 1) h, e, segment_at) in
       omega (arith, so, on)
@@ -97,10 +97,10 @@ module _ (n : ℕ) (xs ys : List ℕ) (x i : ℕ) where
   named s = λ y e. subst (λ y. OnSegment (point_in xs ys i) (point_in xs ys (i + 1)) x y) (ap value_of e) s
 
   -- any segment that spans x reads the curve
-  pub read-any : {y : ℕ} → Smooth n xs ys → i + 1 < n → spans (at n xs ys i) (at n xs ys (i + 1)) x ≡ true →
+  pub read_any : {y : ℕ} → Smooth n xs ys → i + 1 < n → spans (at n xs ys i) (at n xs ys (i + 1)) x ≡ true →
       y ≡ interpolated (at n xs ys i) (at n xs ys (i + 1)) x → On y ≡ curve_at (points n xs ys) x
   unfolding points
-  read-any smooth h e is =
+  read_any smooth h e is =
       let d = point 0 0 in
       let here : get_or (points n xs ys) i d ≡ at n xs ys i = get_or-tabulate n (at n xs ys) i d (omega arith) in
       let next : get_or (points n xs ys) (suc i) d ≡ at n xs ys (i + 1) = rw (← add-one i) (get_or-tabulate n (at n xs ys) (i + 1) d h) in

@@ -9,7 +9,7 @@ use mathlib.Core.Path.{◌≡◌}
 use Rattle.curves.specs.Smooth.{Smooth}
 use Rattle.laws.proofs.Rising.{rising_way, falling_way}
 use Rattle.rules.specs.Curve.{Point, points, compressibility_sound, conductivity_sound}
-use Rattle.rules.proofs.Sound.{compressible, falls_down, conductive, rises-up}
+use Rattle.rules.proofs.Sound.{compressible, falls_down, conductive, rises_up}
 
 pub compressibility_smooth : (n : ℕ) (void stress : List ℕ) → compressibility_sound (points n void stress) ≡ true → Smooth n void stress
 compressibility_smooth n void stress sound =
@@ -18,8 +18,8 @@ compressibility_smooth n void stress sound =
       one_way = (falling_way (points n void stress) (falls_down n void stress sound)).1;
       apart = λ i h. omega (arith, k.void_falls i h);
       higher = λ i h. le_of_lt (k.stress_rises i h);
-      abscissa-most = k.void_high;
-      ordinate-most = k.stress_high;
+      abscissa_most = k.void_high;
+      ordinate_most = k.stress_high;
     }
 
 pub conductivity_smooth : (n : ℕ) (void conductivity : List ℕ) (first : List Point) →
@@ -27,9 +27,9 @@ pub conductivity_smooth : (n : ℕ) (void conductivity : List ℕ) (first : List
 conductivity_smooth n void conductivity first sound =
     let k = conductive n void conductivity first sound in
     record {
-      one_way = (rising_way (points n void conductivity) (rises-up n void conductivity first sound)).1;
+      one_way = (rising_way (points n void conductivity) (rises_up n void conductivity first sound)).1;
       apart = λ i h. omega (arith, k.void_rises i h);
       higher = k.never_falls;
-      abscissa-most = k.void_high;
-      ordinate-most = λ i h. le_trans (k.conductivity_high i h) (lit≤ tt);
+      abscissa_most = k.void_high;
+      ordinate_most = λ i h. le_trans (k.conductivity_high i h) (lit≤ tt);
     }

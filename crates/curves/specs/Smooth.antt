@@ -10,5 +10,5 @@ pub record Smooth (count : ℕ) (xs ys : List ℕ) : Type 0 where
   pub one_way : OneWay (points count xs ys)
   pub apart : (i : ℕ) → i + 1 < count → 0 < distance (get_or xs i 0) (get_or xs (i + 1) 0)
   pub higher : (i : ℕ) → i + 1 < count → get_or ys i 0 ≤ get_or ys (i + 1) 0
-  pub abscissa-most : (i : ℕ) → i < count → get_or xs i 0 ≤ void_limits.most
-  pub ordinate-most : (i : ℕ) → i < count → get_or ys i 0 ≤ stress_limits.most
+  pub abscissa_most : (i : ℕ) → i < count → get_or xs i 0 ≤ void_limits.most
+  pub ordinate_most : (i : ℕ) → i < count → get_or ys i 0 ≤ stress_limits.most

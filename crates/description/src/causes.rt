@@ -30,10 +30,8 @@ pub fn described_cause<'a>(
     table_time: &'a [u64; 64],
     table_load: &'a [u64; 64],
 ) -> Checked
-    ghost d: { Description }
-    requires table_load_value { description_of header void.now stress.now conductivity_void.now conductivity.now solids.now water.now table_time.now table_load.now ≡ d }
     requires header_value { header_sound header ≡ true }
-    ensures { result ≡ described_answer d }
+    ensures { let d : Description = description_of header void.now stress.now conductivity_void.now conductivity.now solids.now water.now table_time.now table_load.now in result ≡ described_answer d }
 {
     let compressibility_points = header.compressibility_points;
     let conductivity_points = header.conductivity_points;

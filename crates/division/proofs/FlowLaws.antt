@@ -63,10 +63,10 @@ module _ (job : List ℕ) (r : Record) (t : ℕ) (flows remainders : List ℤ) w
   room_enough room long = rw (le-ltb _ _ room, le-ltb _ _ long) refl
 
 -- a call leaves the faces and the number of elements
-events-count : (r : Record) (es : List Event) → entry_count (with_events r es) ≡ entry_count r
+events_count : (r : Record) (es : List Event) → entry_count (with_events r es) ≡ entry_count r
 unfolding with_events with_state
-events-count r [] = refl
-events-count r (e ∷ rest) = refl
+events_count r [] = refl
+events_count r (e ∷ rest) = refl
 
 call_count : (r : Record) (call : Call) → entry_count (called r call).after ≡ entry_count r
 unfolding called
@@ -81,7 +81,7 @@ call_count r call = go (is_layer r)
           }
     ]).after ≡ entry_count r
     go false = refl
-    go true = events-count r (outcome (record_site r) (record_state r) call).events
+    go true = events_count r (outcome (record_site r) (record_state r) call).events
 
 pub run_count : (job : List ℕ) (r : Record) → entry_count (job_run job r) ≡ entry_count r
 unfolding job_run

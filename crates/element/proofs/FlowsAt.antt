@@ -45,14 +45,14 @@ outward_range (Drained held) t e within h short =
 
 module _ (top : Face) (t : ℕ) where
   -- through the top, by the last index
-  above-top : (es : List Element) (j : ℕ) (d : Element) → suc j ≡ length es →
+  above_top : (es : List Element) (j : ℕ) (d : Element) → suc j ≡ length es →
       get_or (flows_above top t es) j (pos 0) ≡ outward top t (get_or es j d)
   unfolding flows_above
-  above-top [] j d h = absurd (omega arith)
-  above-top (e ∷ []) zero d h = refl
-  above-top (e ∷ []) (suc j) d h = absurd (omega arith)
-  above-top (e ∷ f ∷ rest) zero d h = absurd (omega arith)
-  above-top (e ∷ f ∷ rest) (suc j) d h = above-top (f ∷ rest) j d (omega arith)
+  above_top [] j d h = absurd (omega arith)
+  above_top (e ∷ []) zero d h = refl
+  above_top (e ∷ []) (suc j) d h = absurd (omega arith)
+  above_top (e ∷ f ∷ rest) zero d h = absurd (omega arith)
+  above_top (e ∷ f ∷ rest) (suc j) d h = above_top (f ∷ rest) j d (omega arith)
 
   module _ (n : ℕ) (excess : List ℤ) (resistance : List ℕ) (j : ℕ) where
     -- an inner face, by the arrays
@@ -73,7 +73,7 @@ module _ (top : Face) (t : ℕ) where
     unfolding flow_above elements_in
     flow_top h =
         rw (
-          above-top (elements_in n excess resistance []) j (element_of (pos 0) 0 0) (rw (length-tabulate n (element_in excess resistance [])) (omega arith)),
+          above_top (elements_in n excess resistance []) j (element_of (pos 0) 0 0) (rw (length-tabulate n (element_in excess resistance [])) (omega arith)),
           get_or-tabulate n (element_in excess resistance []) j (element_of (pos 0) 0 0) (omega arith),
         )
 

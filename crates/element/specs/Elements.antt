@@ -22,9 +22,9 @@ elements_in elements excess resistance sensitivity = tabulate elements (element_
 
 -- what a step needs of the arrays: no pressure and no resistance is out of range
 pub record Readable (elements : ℕ) (excess : List ℤ) (resistance : List ℕ) : Type 0 where
-  pub excess-within : (j : ℕ) → j < elements → Within (get_or excess j (pos 0)) most_excess
+  pub excess_within : (j : ℕ) → j < elements → Within (get_or excess j (pos 0)) most_excess
   pub resistance_positive : (j : ℕ) → j < elements → 0 < get_or resistance j 0
-  pub resistance-most : (j : ℕ) → j < elements → get_or resistance j 0 ≤ most_resistance
+  pub resistance_most : (j : ℕ) → j < elements → get_or resistance j 0 ≤ most_resistance
 
 -- up through the upper face of element j
 unfoldable pub flow_above : (top : Face) (t elements : ℕ) (excess : List ℤ) (resistance : List ℕ) → ℕ → ℤ

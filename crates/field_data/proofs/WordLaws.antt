@@ -56,8 +56,8 @@ module _ (compare : (element : ℕ) → Reading → Compared) (readings : List �
   abbrev pub first_answers : (count : ℕ) → List ℕ
   first_answers count = appended (tabulate count (answer_by compare readings))
 
-  answers-length : (count : ℕ) → length (first_answers count) ≡ 5 * count
-  answers-length count = length-appended 5 count (answer_by compare readings) (λ i h. refl)
+  answers_length : (count : ℕ) → length (first_answers count) ≡ 5 * count
+  answers_length count = length-appended 5 count (answer_by compare readings) (λ i h. refl)
 
   module _ (before : List ℕ) where
     pub answers_none : before ≡ sets before 0 (first_answers 0)
@@ -74,17 +74,17 @@ module _ (compare : (element : ℕ) → Reading → Compared) (readings : List �
           tabulate_more i (answer_by compare readings),
           appended_more (tabulate i (answer_by compare readings)) (answer_by compare readings i),
           sets_append before 0 (first_answers i) (answer_by compare readings i),
-          answers-length i,
+          answers_length i,
           zero-add (5 * i),
         )
         refl
 
     -- all answers
-    pub answers-all : (i : ℕ) (out : List ℕ) → out ≡ sets before 0 (first_answers i) → i ≡ reading_count readings →
+    pub answers_all : (i : ℕ) (out : List ℕ) → out ≡ sets before 0 (first_answers i) → i ≡ reading_count readings →
         5 * reading_count readings ≤ length before → out ≡ overlaid (answers_by compare readings) before
-    answers-all i out e all room =
+    answers_all i out e all room =
         e ∙ ap (λ (n : ℕ). sets before 0 (first_answers n)) all ∙
-        sets_front before (first_answers (reading_count readings)) (rw (answers-length (reading_count readings)) room)
+        sets_front before (first_answers (reading_count readings)) (rw (answers_length (reading_count readings)) room)
 
 -- answers that agree on each reading agree on all
 pub answers_same : (one other : (element : ℕ) → Reading → Compared) → ((element : ℕ) (x : Reading) → one element x ≡ other element x) →

@@ -54,11 +54,11 @@ same_order p q r t f g = go (leb p q) (leb r t) refl refl
     go true false e k = e ∙ sym (le-leb r t (f (leb-true p q e)))
     go false true e k = le-leb p q (g (leb-true r t k)) ∙ sym k
 
-value-at_most : (s : Bool) (a c limit : ℕ) (x : Float) → 0 < c → HasValue x s a c → size_at_most limit x ≡ leb a (limit * c)
+value_at_most : (s : Bool) (a c limit : ℕ) (x : Float) → 0 < c → HasValue x s a c → size_at_most limit x ≡ leb a (limit * c)
 unfolding size_at_most
-value-at_most s a c limit nan h v = absurd v
-value-at_most s a c limit (inf t) h v = absurd v
-value-at_most s a c limit (fin t m e) h v =
+value_at_most s a c limit nan h v = absurd v
+value_at_most s a c limit (inf t) h v = absurd v
+value_at_most s a c limit (fin t m e) h v =
     same_order (m * up e) (limit * down e) a (limit * c)
     (λ k. le_of_mul-le-mul_right (rw (v.1, mul_right_comm limit (down e) c) at (mul-le-mul_right c k)) (down_pos e))
     (λ k. le_of_mul-le-mul_right (rw (← v.1, mul_right_comm limit c (down e)) at (mul-le-mul_right (down e) k)) h)
@@ -81,7 +81,7 @@ bits_at_most limit bits = go (is_finite bits) refl
   where
     go : (z : Bool) → is_finite bits ≡ z → size_at_most limit (of_bits binary32 bits) ≡ (is_finite bits && leb (size bits) (limit * 2 ^ 149))
     go true e =
-        rw e (value-at_most (negative bits) (size bits) (2 ^ 149) limit (of_bits binary32 bits) (pow_pos 149) (finite_value bits (ltb-true (exponent_field bits) 255 e)))
+        rw e (value_at_most (negative bits) (size bits) (2 ^ 149) limit (of_bits binary32 bits) (pow_pos 149) (finite_value bits (ltb-true (exponent_field bits) 255 e)))
     go false e =
         rw e
         (ap (size_at_most limit) (by_fields bits ∙ ap (λ (x : ℕ). of_fields binary32 (negative bits) x (fraction bits)) (full bits (ltb-false (exponent_field bits) 255 e))) ∙

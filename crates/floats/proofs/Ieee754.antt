@@ -28,14 +28,14 @@ twice_power m (suc x) h = rw (less x) (mul_left_comm 2 m (2 ^ x) ∙ mul_comm m 
     less x = omega arith
 
 module _ (bits : ℕ) where
-  subnormal-value : exponent_field bits ≡ 0 → HasValue (of_bits binary32 bits) (negative bits) (fraction bits) (2 ^ 149)
+  subnormal_value : exponent_field bits ≡ 0 → HasValue (of_bits binary32 bits) (negative bits) (fraction bits) (2 ^ 149)
   unfolding size mantissa
-  subnormal-value e = simp (e, mul-one) at (finite_value bits (rw e (lit< tt)))
+  subnormal_value e = simp (e, mul-one) at (finite_value bits (rw e (lit< tt)))
 
-  normal-value : 0 < exponent_field bits → exponent_field bits < 255 →
+  normal_value : 0 < exponent_field bits → exponent_field bits < 255 →
       HasValue (of_bits binary32 bits) (negative bits) (2 ^ exponent_field bits * (2 ^ 23 + fraction bits)) (2 ^ 150)
   unfolding size mantissa
-  normal-value some finite =
+  normal_value some finite =
       subst (λ (a : ℕ). HasValue (of_bits binary32 bits) (negative bits) a (2 ^ 150))
       (ap (λ (m : ℕ). 2 * (m * 2 ^ power bits)) (ap (λ (z : Bool). cond z (fraction bits) (2 ^ 23 + fraction bits)) (ne_eqb (exponent_field bits) 0 (λ e. omega arith))) ∙
       twice_power (2 ^ 23 + fraction bits) (exponent_field bits) some)
@@ -48,8 +48,8 @@ module _ (bits : ℕ) where
 
   pub ieee754 : Ieee754 bits
   ieee754 = record {
-    subnormal = subnormal-value;
-    normal = normal-value;
+    subnormal = subnormal_value;
+    normal = normal_value;
     infinite = λ e z. beyond e ∙ ap (λ (t : Bool). cond t (inf (negative bits)) nan) (eq-eqb (fraction bits) 0 z);
     no_number = λ e z. beyond e ∙ ap (λ (t : Bool). cond t (inf (negative bits)) nan) (ne_eqb (fraction bits) 0 z);
     value = λ h. finite_value bits (ltb→lt (exponent_field bits) 255 h);

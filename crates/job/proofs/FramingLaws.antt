@@ -104,9 +104,9 @@ module _ (job : List ℕ) where
   unused_zero e = eqb-true _ _ (not-false _ (neither (not (header_sound header)) _ e).1)
 
   -- where every test fails, none of them holds
-  pub all-passed : is_short ≡ false → is_other ≡ false → is_outside ≡ false → is_wrong ≡ false → framing job ≡ Sound header
+  pub all_passed : is_short ≡ false → is_other ≡ false → is_outside ≡ false → is_wrong ≡ false → framing job ≡ Sound header
   unfolding chosen
-  all-passed short other outside wrong = by_tests ∙ rw (short, other, outside, wrong)
+  all_passed short other outside wrong = by_tests ∙ rw (short, other, outside, wrong)
 
   -- where none of them holds, the header is the job's, its numbers keep their limits and the length is theirs
   module _ (h : Header) (e : framing job ≡ Sound h) where

@@ -7,10 +7,10 @@ use Rattle.numbers.specs.Bytes.{column}
 use Rattle.rules.specs.Job.{firsts, pair_length}
 
 -- the first fields of pairs, put in an array of zeros
-pub firsts-read : (size : ℕ) (job : List ℕ) {offset offset' count count' : ℕ} {array blank : List ℕ} → blank ≡ zeros size → offset ≡ offset' →
+pub firsts_read : (size : ℕ) (job : List ℕ) {offset offset' count count' : ℕ} {array blank : List ℕ} → blank ≡ zeros size → offset ≡ offset' →
     count ≡ count' → array ≡ filled blank count (column pair_length offset job) → array ≡ firsts size offset' count' job
 unfolding firsts
-firsts-read size job b o n e = e ∙ rw (b, o, n) refl
+firsts_read size job b o n e = e ∙ rw (b, o, n) refl
 
 -- where the points of both curves and of the table begin
 pub conductivity_at : {n n' m m' : ℕ} → n ≡ n' → m ≡ m' → 48 + 16 * n + 16 * m ≡ 48 + 16 * n' + 16 * m'

@@ -6,14 +6,14 @@ use Rattle.rules.specs.Job.{Description}
 -- they are those of a description
 pub record Pairs (d : Description) (solids water compressibility_void compressibility_stress conductivity_void conductivity table_time
     table_load : List ℕ) : Type 0 where
-  pub solids-held : solids ≡ d.solids
-  pub water-held : water ≡ d.water
-  pub compressibility_stress-held : compressibility_stress ≡ d.compressibility_stress
-  pub compressibility_void-held : compressibility_void ≡ d.compressibility_void
-  pub conductivity_void-held : conductivity_void ≡ d.conductivity_void
-  pub conductivity-held : conductivity ≡ d.conductivity
-  pub table_time-held : table_time ≡ d.table_time
-  pub table_load-held : table_load ≡ d.table_load
+  pub solids_held : solids ≡ d.solids
+  pub water_held : water ≡ d.water
+  pub compressibility_stress_held : compressibility_stress ≡ d.compressibility_stress
+  pub compressibility_void_held : compressibility_void ≡ d.compressibility_void
+  pub conductivity_void_held : conductivity_void ≡ d.conductivity_void
+  pub conductivity_held : conductivity ≡ d.conductivity
+  pub table_time_held : table_time ≡ d.table_time
+  pub table_load_held : table_load ≡ d.table_load
 
 -- none is stored yet
 pub record Blank (solids water compressibility_void compressibility_stress conductivity_void conductivity table_time table_load : List ℕ) :

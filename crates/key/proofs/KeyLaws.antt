@@ -98,7 +98,7 @@ module _ (job : List ℕ) (done : (opening job).answer ≡ Done) where
 
   pub opened_clock : (opening job).after.layer.progress.clock.0 ≡ 0
   unfolding record_state opening_state
-  opened_clock = ap (λ (s : State). s.clock) (opened_record_lem job done).state-is
+  opened_clock = ap (λ (s : State). s.clock) (opened_record_lem job done).state_is
 
   -- and which has as many elements as the job describes
   opened_elements : (opening job).after.layer.frame.elements ≡ (described job).header.elements
@@ -201,8 +201,8 @@ KeyNumber n = (n ≤ 10) ⊎ (n ≡ 20)
 pub opening-key : (cause : Refusal) → OpeningCause cause → KeyNumber (refusal_number cause)
 opening-key cause told = ⊎_elim (λ small. inl (omega arith)) (λ twenty. inr twenty) told
 
-pub key-most : (n : ℕ) → KeyNumber n → n ≤ 20
-key-most n told = ⊎_elim (λ small. omega arith) (λ twenty. omega arith) told
+pub key_most : (n : ℕ) → KeyNumber n → n ≤ 20
+key_most n told = ⊎_elim (λ small. omega arith) (λ twenty. omega arith) told
 
 -- The key returns such a number.
 pub key_numbers : (job buffer : List ℕ) → KeyNumber (key job buffer).number
@@ -219,17 +219,17 @@ key_numbers job buffer =
 
 -- all past the first n places is left; with a number other than 0, the whole buffer
 pub record Leaves (buffer : List ℕ) (n : ℕ) (x : Returned) : Type 0 where
-  pub refused-whole : (x.number ≡ 0 → ⊥) → x.buffer ≡ buffer
+  pub refused_whole : (x.number ≡ 0 → ⊥) → x.buffer ≡ buffer
   pub past : x.buffer ≡ overlaid (take n x.buffer) buffer
 
 module _ (buffer : List ℕ) (n : ℕ) where
-  leaves-whole : (number : ℕ) → Leaves buffer n (record { number = number; buffer = buffer })
-  leaves-whole number = record { refused-whole = λ _. refl; past = sym (overlaid-take n buffer) }
+  leaves_whole : (number : ℕ) → Leaves buffer n (record { number = number; buffer = buffer })
+  leaves_whole number = record { refused_whole = λ _. refl; past = sym (overlaid-take n buffer) }
 
   leaves_front : (front : List ℕ) → length front ≡ n → Leaves buffer n (record { number = 0; buffer = overlaid front buffer })
   unfolding overlaid
   leaves_front front h = record {
-    refused-whole = λ other. absurd (other refl);
+    refused_whole = λ other. absurd (other refl);
     past = rw (← h, take-append_seam front _) refl;
   }
 
@@ -238,7 +238,7 @@ module _ (buffer : List ℕ) (n : ℕ) where
   leaves_run r end budget h = go (ltb (length buffer) (result_size r.layer.frame.elements))
     where
       go : (short : Bool) → Leaves buffer n (elim short [ true ↦ refused_result ShortBuffer buffer | false ↦ written r end budget buffer ])
-      go true = leaves-whole (refusal_number ShortBuffer)
+      go true = leaves_whole (refusal_number ShortBuffer)
       go false =
           let run = ended_run r end budget in
           leaves_front (result_bytes run.after run.stop run.steps)
@@ -249,10 +249,10 @@ module _ (job buffer : List ℕ) where
   size = result_size (described job).header.elements
 
   -- the key leaves all past its result
-  pub key-leaves : Leaves buffer size (key job buffer)
+  pub key_leaves : Leaves buffer size (key job buffer)
   unfolding refused_opening refused_result
-  key-leaves =
+  key_leaves =
       ⊎_elim
-      (λ (cause, is). rw (key-refused job buffer cause (ap (λ (a : Answered). a.answer) is)) (leaves-whole buffer size (refusal_number cause)))
+      (λ (cause, is). rw (key-refused job buffer cause (ap (λ (a : Answered). a.answer) is)) (leaves_whole buffer size (refusal_number cause)))
       (λ done. rw (key_run job done buffer) (leaves_run buffer size _ _ _ (ap result_size (opened_elements job done))))
       (opening_either job)

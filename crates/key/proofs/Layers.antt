@@ -5,7 +5,7 @@ use mathlib.Core.List.{List, [], ◌∷◌}
 use mathlib.Core.Path.{◌≡◌, refl}
 use Rattle.claims.proofs.Events.{run_accepted}
 use Rattle.claims.proofs.Stands.{Stands, site_sound, stands_layer, stands_after}
-use Rattle.lent.proofs.Standing.{state-is}
+use Rattle.lent.proofs.Standing.{state_is}
 use Rattle.pass.proofs.Reached.{fixed, kept}
 use Rattle.rules.specs.Calls.{ended_run}
 use Rattle.quantities.specs.Quantities.{clock_limits}
@@ -15,13 +15,13 @@ use Rattle.rules.specs.declared.record.Record.{Record}
 
 -- a layer stands at its own state
 layer_stands : (r : Record) → is_layer r ≡ true → Stands (record_site r) r.layer.frame.starting_water (record_state r) r
-layer_stands r is = record { fixed = fixed r is; site_is = refl; state-is = refl; starting_is = refl; kept = kept r is }
+layer_stands r is = record { fixed = fixed r is; site_is = refl; state_is = refl; starting_is = refl; kept = kept r is }
 
 -- events leave the number of elements
-elements-after : (r : Record) (es : List Event) → (with_events r es).layer.frame.elements ≡ r.layer.frame.elements
+elements_after : (r : Record) (es : List Event) → (with_events r es).layer.frame.elements ≡ r.layer.frame.elements
 unfolding with_events with_state
-elements-after r [] = refl
-elements-after r (e ∷ rest) = refl
+elements_after r [] = refl
+elements_after r (e ∷ rest) = refl
 
 module _ (r : Record) (end budget : ℕ) where
   pub ended_layer : is_layer r ≡ true → r.layer.progress.clock.0 ≤ end → end ≤ clock_limits.most → is_layer (ended_run r end budget).after ≡ true
@@ -37,4 +37,4 @@ module _ (r : Record) (end budget : ℕ) where
 
   pub ended_elements : (ended_run r end budget).after.layer.frame.elements ≡ r.layer.frame.elements
   unfolding ended_run
-  ended_elements = elements-after r (running (record_site r) end budget (record_state r)).events
+  ended_elements = elements_after r (running (record_site r) end budget (record_state r)).events

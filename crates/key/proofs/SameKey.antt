@@ -66,8 +66,8 @@ head-length r stop steps =
     let p = r.layer.progress in
     length-head stop r.layer.frame.elements p.clock.0 steps (up p.load.0) p.top_outflow.0 p.bottom_outflow.0 (settlement r)
 
-after-head : (size offset : ℕ) (head rest : List ℕ) → length head ≡ 56 → part size (56 + offset) (head ++ rest) ≡ part size offset rest
-after-head size offset head rest h = rw (← h) (part_past size offset head rest)
+after_head : (size offset : ℕ) (head rest : List ℕ) → length head ≡ 56 → part size (56 + offset) (head ++ rest) ≡ part size offset rest
+after_head size offset head rest h = rw (← h) (part_past size offset head rest)
 
 -- the pore pressure of the element at an index stands in the result at its place
 pub pore_in-result : (r : Record) (stop : Stop) (steps index : ℕ) → index < r.layer.frame.elements →
@@ -84,7 +84,7 @@ pore_in-result r stop steps index h =
     let many = first_length n r.layer.solids in
     let burdened = burdens-length r.layer.frame.gravity Ss in
     let watered = first_length n r.layer.water in
-    after-head 8 (40 * index + 32) (result_head r stop steps) (elements_bytes soil level load 0 Bs Ss Ws) (head-length r stop steps) ∙
+    after_head 8 (40 * index + 32) (result_head r stop steps) (elements_bytes soil level load 0 Bs Ss Ws) (head-length r stop steps) ∙
     element_part soil level load 0 Bs Ss Ws 8 32 index (lit≤ tt) (omega arith) (omega arith) (omega arith) ∙
     pore_part soil level load (get_or (heights_below 0 Ss Ws) index 0) (get_or Bs index 0) (get_or Ss index 0) (get_or Ws index 0)
 

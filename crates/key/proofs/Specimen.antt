@@ -18,9 +18,9 @@ printed_head stop elements clock steps load top_outflow bottom_outflow settlemen
 abbrev printed_element : (W E effective : ℕ) (total pore : ℤ) → List ℕ
 printed_element W E effective total pore = word W ++ word E ++ word effective ++ signed_word total ++ signed_word pore
 
-pub specimen-key : program_output specimen ≡
+pub specimen_key : program_output specimen ≡
     printed_head 0 2 100 1 15_000_000 (pos 13_591) (pos 0) (pos 13_591) ++
     printed_element 2_000_000 200_000_000 5_000_000 (pos 15_083_385) (pos 10_083_385) ++
     printed_element 1_986_409 198_640_900 6_359_100 (pos 15_054_021) (pos 8_694_921)
 unfolding program_output specimen
-specimen-key = refl
+specimen_key = refl

@@ -21,7 +21,7 @@ use Rattle.key.specs.Readings.{job_readings}
 use Rattle.lent.proofs.Standing.{counted}
 use Rattle.numbers.proofs.Filled.{length-overlaid}
 use Rattle.numbers.proofs.Interval.{within_fits}
-use Rattle.numbers.proofs.LittleEndian.{number-bytes_lt, part_front}
+use Rattle.numbers.proofs.LittleEndian.{number_bytes_lt, part_front}
 use Rattle.numbers.proofs.Searches.{passed}
 use Rattle.numbers.proofs.Signed.{fits_up, fits_down}
 use Rattle.numbers.specs.Arrays.{overlaid}
@@ -86,7 +86,7 @@ module _ (a : Record) (is : is_layer a ≡ true) (stop : Stop) (steps : ℕ) (be
       let z = element_pore a j in
       let fits = within_fits tt (pore_range a is j h) in
       ap signed_number
-      (ap number (part 8 (56 + (40 * j + 32)) (omega arith) ∙ pore_in-result a stop steps j h) ∙ number-bytes_lt 8 (signed_field z) (bits_few z fits)) ∙
+      (ap number (part 8 (56 + (40 * j + 32)) (omega arith) ∙ pore_in-result a stop steps j h) ∙ number_bytes_lt 8 (signed_field z) (bits_few z fits)) ∙
       bits_back z fits
 
   pub told : Told bytes
@@ -136,18 +136,18 @@ module _ (job readings answers result : List ℕ) (is : Alike job readings answe
       let at-0 = opened_clock job done in
       ended_layer first end budget (opened_layer job done) (omega arith) (end_and_budget job done).0
 
-  key-stored : (key job result).buffer ≡ overlaid (result_bytes run.after run.stop run.steps) result
-  key-stored = ap (λ (x : Returned). x.buffer) (key_run job done result ∙ (key-room-enough first end budget result (is.result_there zero)).0)
+  key_stored : (key job result).buffer ≡ overlaid (result_bytes run.after run.stop run.steps) result
+  key_stored = ap (λ (x : Returned). x.buffer) (key_run job done result ∙ (key-room-enough first end budget result (is.result_there zero)).0)
 
   roomy : result_size run.after.layer.frame.elements ≤ length result
   roomy = rw (ended_elements first end budget) (is.result_there zero)
 
   pub key_told : Told (key job result).buffer
-  key_told = told run.after after_layer run.stop run.steps result (key job result).buffer key-stored roomy
+  key_told = told run.after after_layer run.stop run.steps result (key job result).buffer key_stored roomy
 
   -- what is answered by it is what is asked
-  pub key-answers : record { number = 0; buffer = overlaid (answers_in (key job result).buffer readings) answers } ≡ job_readings job readings answers
-  key-answers =
+  pub key_answers : record { number = 0; buffer = overlaid (answers_in (key job result).buffer readings) answers } ≡ job_readings job readings answers
+  key_answers =
       ap (λ (l : List ℕ). record { number = 0; buffer = overlaid l answers })
-      (answers_told run.after after_layer run.stop run.steps result (key job result).buffer key-stored roomy readings) ∙
+      (answers_told run.after after_layer run.stop run.steps result (key job result).buffer key_stored roomy readings) ∙
       sym (readings_run job readings answers done ∙ room_enough first end budget readings answers (is.has_room zero))

@@ -37,14 +37,12 @@ pub fn run_to_result<'a>(
     burden: &'a [u64; 128],
     out: &mut [u8],
 ) -> u32
-    ghost r: { Record }
-    requires table_load_value { record_of (soil_of (counts_of header) void.now stress.now conductivity_void.now conductivity.now) (layer_of frame progress solids.now water.old table_time.now table_load.now) ≡ r }
-    requires r_value { is_layer r ≡ true }
+    requires r_value { let r : Record = record_of (soil_of (counts_of header) void.now stress.now conductivity_void.now conductivity.now) (layer_of frame progress solids.now water.old table_time.now table_load.now) in is_layer r ≡ true }
     requires clock_le_end { (progress.clock.0 ≤ header.end) × (header.end ≤ clock_limits.most) × (header.budget ≤ budget_limits.most) }
     requires water_len { (length water.old ≡ 128) × (burden.now ≡ burdens_in frame solids.now) }
-    ensures value { result ≡ (run_to_result r header.end header.budget out.old).number }
-    ensures out_after { out.new ≡ (run_to_result r header.end header.budget out.old).buffer }
-    ensures water_after { water.new ≡ water_run r header.end header.budget out.old }
+    ensures value { let r : Record = record_of (soil_of (counts_of header) void.now stress.now conductivity_void.now conductivity.now) (layer_of frame progress solids.now water.old table_time.now table_load.now) in result ≡ (run_to_result r header.end header.budget out.old).number }
+    ensures out_after { let r : Record = record_of (soil_of (counts_of header) void.now stress.now conductivity_void.now conductivity.now) (layer_of frame progress solids.now water.old table_time.now table_load.now) in out.new ≡ (run_to_result r header.end header.budget out.old).buffer }
+    ensures water_after { let r : Record = record_of (soil_of (counts_of header) void.now stress.now conductivity_void.now conductivity.now) (layer_of frame progress solids.now water.old table_time.now table_load.now) in water.new ≡ water_run r header.end header.budget out.old }
 {
     if out.len() < result::result_size(frame.elements) {
         return result::refused(Refusal::ShortBuffer);

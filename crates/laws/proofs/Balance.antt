@@ -16,7 +16,7 @@ use Rattle.rules.specs.Layer.{Site, State, Skeleton, skeleton, Element, read_ele
 use Rattle.rules.specs.Step.{outward, upward_flows, flows_above, moved, new_height, stepped, on_curve, all_on_curve, leaves_curve}
 use Rattle.quantities.specs.declared.Face.{Face}
 use Rattle.laws.proofs.OnCurve.{on_curve_parts, stays_on}
-use Rattle.laws.proofs.Lengths.{elements-length, above-length, flows-moved-length}
+use Rattle.laws.proofs.Lengths.{elements_length, above_length, flows_moved_length}
 
 -- a flow that leaves one element and enters the next
 telescope : (w below above rest last : ℤ) → (w -ℤ above +ℤ below) +ℤ (rest +ℤ above -ℤ last) ≡ w +ℤ rest +ℤ below -ℤ last
@@ -81,7 +81,7 @@ unfolding upward_flows moved total sum first_or last_or
 flows_total top bottom t [] [] h = refl
 flows_total top bottom t [] (w ∷ ws) h = absurd (omega arith)
 flows_total top bottom t (e ∷ rest) water h =
-    moved_total (neg_ℤ (outward bottom t e)) (flows_above top t (e ∷ rest)) water (above-length top t (e ∷ rest) ∙ h)
+    moved_total (neg_ℤ (outward bottom t e)) (flows_above top t (e ∷ rest)) water (above_length top t (e ∷ rest) ∙ h)
 
 module _ (site : Site) (t : ℕ) (s : State) (size : length s.water ≡ length site.solids) (stays : T (not (leaves_curve site s t))) where
   abbrev flows : List ℤ
@@ -91,8 +91,8 @@ module _ (site : Site) (t : ℕ) (s : State) (size : length s.water ≡ length s
   pub water_change : pos (sum (stepped site t s).water) ≡ pos (sum s.water) +ℤ first_or (pos 0) flows -ℤ last_or (pos 0) flows
   unfolding stepped
   water_change =
-      let n = elements-length site s size in
-      let m = flows-moved-length site.top site.bottom t (read_elements site s) s.water n in
+      let n = elements_length site s size in
+      let m = flows_moved_length site.top site.bottom t (read_elements site s) s.water n in
       on_curve_total (skeleton site) site.solids s.water (moved flows s.water) (omega arith) m (stays_on site s t stays) ∙
       flows_total site.top site.bottom t (read_elements site s) s.water n
 

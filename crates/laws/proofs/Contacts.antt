@@ -69,30 +69,30 @@ module _ (P : ℕ → Type 0) where
   every_outer (Drained held) e h = (h, tt)
 
   -- and so of every contact with a face above
-  every-above : (top : Face) (es : List Element) → Every (λ e. P e.sensitivity) es →
+  every_above : (top : Face) (es : List Element) → Every (λ e. P e.sensitivity) es →
       Every (λ c. P c.sensitivity) (contacts_above top es)
   unfolding Every contacts_above
-  every-above top [] h = tt
-  every-above top (e ∷ []) h = every_outer top e h.0
-  every-above top (e ∷ f ∷ rest) h = (h.0, (h.1.0, every-above top (f ∷ rest) h.1))
+  every_above top [] h = tt
+  every_above top (e ∷ []) h = every_outer top e h.0
+  every_above top (e ∷ f ∷ rest) h = (h.0, (h.1.0, every_above top (f ∷ rest) h.1))
 
   -- what holds of the sensitivity of every element holds of that of every contact
-  pub every-contact : (top bottom : Face) (es : List Element) → Every (λ e. P e.sensitivity) es →
+  pub every_contact : (top bottom : Face) (es : List Element) → Every (λ e. P e.sensitivity) es →
       Every (λ c. P c.sensitivity) (contacts top bottom es)
   unfolding Every contacts
-  every-contact top bottom [] h = tt
-  every-contact top bottom (e ∷ rest) h =
+  every_contact top bottom [] h = tt
+  every_contact top bottom (e ∷ rest) h =
       (every_append (λ c. P c.sensitivity) (outer_contacts bottom e) (contacts_above top (e ∷ rest))).1
-      (every_outer bottom e h.0, every-above top (e ∷ rest) h)
+      (every_outer bottom e h.0, every_above top (e ∷ rest) h)
 
   -- what holds of the sensitivity of all solids heights but 0 holds of that of every element
-  pub every-sensitivity : ((S : ℕ) → 0 < S → P (sensitivity S)) → (site : Site) (load : ℤ) (Bs Ss Ws : List ℕ) →
+  pub every_sensitivity : ((S : ℕ) → 0 < S → P (sensitivity S)) → (site : Site) (load : ℤ) (Bs Ss Ws : List ℕ) →
       Every (λ S. 0 < S) Ss → Every (λ e. P e.sensitivity) (elements_from site load Bs Ss Ws)
   unfolding Every elements_from element
-  every-sensitivity f site load [] Ss Ws h = tt
-  every-sensitivity f site load (B ∷ Bs) [] Ws h = tt
-  every-sensitivity f site load (B ∷ Bs) (S ∷ Ss) [] h = tt
-  every-sensitivity f site load (B ∷ Bs) (S ∷ Ss) (W ∷ Ws) h = (f S h.0, every-sensitivity f site load Bs Ss Ws h.1)
+  every_sensitivity f site load [] Ss Ws h = tt
+  every_sensitivity f site load (B ∷ Bs) [] Ws h = tt
+  every_sensitivity f site load (B ∷ Bs) (S ∷ Ss) [] h = tt
+  every_sensitivity f site load (B ∷ Bs) (S ∷ Ss) (W ∷ Ws) h = (f S h.0, every_sensitivity f site load Bs Ss Ws h.1)
 
 -- ---- a site and a state
 
@@ -120,6 +120,6 @@ module _ (site : Site) (s : State) where
   pub layer_limiting : 0 < site_steepness site → Every (λ S. 0 < S) site.solids → Every (Limiting (site_steepness site)) layer
   unfolding read_elements
   layer_limiting k solid =
-      every-contact (λ c. 0 < 2 * c * site_steepness site) site.top site.bottom (read_elements site s)
-      (every-sensitivity (λ c. 0 < 2 * c * site_steepness site) (λ S h. mul-pos (mul-pos (omega arith) (sensitivity_pos S h)) k)
+      every_contact (λ c. 0 < 2 * c * site_steepness site) site.top site.bottom (read_elements site s)
+      (every_sensitivity (λ c. 0 < 2 * c * site_steepness site) (λ S h. mul-pos (mul-pos (omega arith) (sensitivity_pos S h)) k)
       site s.load (burdens site.gravity site.solids) site.solids s.water solid)

@@ -38,10 +38,10 @@ module _ {A : Type 0} where
     at_every (a ∷ rest) d h = (h 0 (omega arith), at_every rest d (λ i k. h (suc i) (omega arith)))
 
     -- what holds of each entry that a list is made of holds of every entry
-    pub every-tabulate : (n : ℕ) (f : ℕ → A) → ((i : ℕ) → i < n → P (f i)) → Every P (tabulate n f)
+    pub every_tabulate : (n : ℕ) (f : ℕ → A) → ((i : ℕ) → i < n → P (f i)) → Every P (tabulate n f)
     unfolding Every tabulate
-    every-tabulate zero f h = tt
-    every-tabulate (suc n) f h = (h zero (omega arith), every-tabulate n (λ k. f (suc k)) (λ i k. h (suc i) (omega arith)))
+    every_tabulate zero f h = tt
+    every_tabulate (suc n) f h = (h zero (omega arith), every_tabulate n (λ k. f (suc k)) (λ i k. h (suc i) (omega arith)))
 
     -- it holds of two lists joined just where it holds of each
     pub every_append : (l m : List A) → Every P (l ++ m) ↔ (Every P l × Every P m)
@@ -66,11 +66,11 @@ module _ {A : Type 0} where
     every_map Q f (a ∷ rest) e = (f a e.0, every_map Q f rest e.1)
 
   -- all pass a test just where every entry passes it
-  pub every-all : (test : A → Bool) (l : List A) → T (all test l) ↔ Every (λ a. T (test a)) l
+  pub every_all : (test : A → Bool) (l : List A) → T (all test l) ↔ Every (λ a. T (test a)) l
   unfolding Every all
-  every-all test [] = (λ t. t, λ e. e)
-  every-all test (a ∷ rest) =
-      let ih = every-all test rest in (
+  every_all test [] = (λ t. t, λ e. e)
+  every_all test (a ∷ rest) =
+      let ih = every_all test rest in (
         (λ t. let (h, more) = both (test a) (all test rest) t in (h, ih.0 more)),
         λ e. joined (test a) (all test rest) e.0 (ih.1 e.1),
       )

@@ -22,7 +22,7 @@ use Rattle.laws.specs.Amid.{Between}
 use Rattle.laws.specs.Most.{most_weight, sharp_burden, most_burden, most_excess, most_resistance}
 use Rattle.laws.proofs.Rising.{off_unless_on}
 use Rattle.laws.proofs.Ranges.{compressibility_ranged, conductivity_ranged, conducts}
-use Rattle.laws.proofs.VoidRatio.{water-on_curve}
+use Rattle.laws.proofs.VoidRatio.{water_on_curve}
 
 -- ---- burdens
 
@@ -39,11 +39,11 @@ module _ (g : ℕ) (light : g ≤ gravity_limits.most) where
   weights_most (S ∷ Ss) h = omega (arith, weight_most S h.0, weights_most Ss h.1)
 
   -- the burden of each of at most 128 elements is in range
-  pub burdens-most : (Ss : List ℕ) → Every (λ S. S ≤ solids_limits.most) Ss → length Ss ≤ element_limits.most → Every (λ B. B ≤ sharp_burden) (burdens g Ss)
+  pub burdens_most : (Ss : List ℕ) → Every (λ S. S ≤ solids_limits.most) Ss → length Ss ≤ element_limits.most → Every (λ B. B ≤ sharp_burden) (burdens g Ss)
   unfolding Every burdens burden
-  burdens-most [] h k = tt
-  burdens-most (S ∷ Ss) h k =
-      (omega (arith, weight_most S h.0, weights_most Ss h.1), burdens-most Ss h.1 (omega arith))
+  burdens_most [] h k = tt
+  burdens_most (S ∷ Ss) h k =
+      (omega (arith, weight_most S h.0, weights_most Ss h.1), burdens_most Ss h.1 (omega arith))
 
 -- ---- excess pressures
 
@@ -57,10 +57,10 @@ module _ (l : List Point) (sound : T (compressibility_sound l)) where
       (λ off. rw (off_unless_on (curve_at l x) (T_not (is_on (curve_at l x)) off)) (omega arith))
 
   -- the excess pressure of an element is in range
-  pub excess-within : (load : ℤ) (B S W : ℕ) → Between (pos 0) (pos stress_limits.most) load → B ≤ most_burden →
+  pub excess_within : (load : ℤ) (B S W : ℕ) → Between (pos 0) (pos stress_limits.most) load → B ≤ most_burden →
       Within (excess_pressure (skeleton_of l) load B S W) most_excess
   unfolding excess_pressure effective_stress
-  excess-within load B S W limits h =
+  excess_within load B S W limits h =
       let stress = value_of (curve_at l (void_ratio S W)) in
       let all = load +ℤ pos B in
       omega (intervals, stress_most (void_ratio S W), one_sided (all -ℤ pos stress), sub_parts all (pos stress), add_parts load (pos B))
@@ -78,7 +78,7 @@ module _ (l k : List Point) (sound : T (compressibility_sound l)) (sound' : T (c
   unfolding resistance effective_stress hydraulic_conductivity
   resistance_ranged S W solid h on =
       let kr = conductivity_ranged k l (void_ratio S W) sound' (conducts k l (void_ratio S W) sound sound' on) in
-      let w = water-on_curve S solid l W h sound on in
+      let w = water_on_curve S solid l W h sound on in
       record {
         positive = ceil_pos kr.lowest (4_905 * height S W) (omega arith);
         most = (ceil_le kr.lowest (4_905 * height S W) most_resistance).1 (omega arith);
@@ -99,7 +99,7 @@ module _ (site : Site) (sound : T (compressibility_sound site.compressibility)) 
   from_burdens load (B ∷ Bs) [] Ws h k = tt
   from_burdens load (B ∷ Bs) (S ∷ Ss) [] h k = tt
   from_burdens load (B ∷ Bs) (S ∷ Ss) (W ∷ Ws) h k =
-      (excess-within site.compressibility sound load B S W h (omega (arith, k.0)), from_burdens load Bs Ss Ws h k.1)
+      (excess_within site.compressibility sound load B S W h (omega (arith, k.0)), from_burdens load Bs Ss Ws h k.1)
 
   -- every excess pressure of at most 128 elements is in range
   pub excesses-within : (s : State) → Between (pos 0) (pos stress_limits.most) s.load → site.gravity ≤ gravity_limits.most →
@@ -107,7 +107,7 @@ module _ (site : Site) (sound : T (compressibility_sound site.compressibility)) 
       Every ExcessWithin (read_elements site s)
   unfolding read_elements
   excesses-within s h light small few =
-      from_burdens s.load (burdens site.gravity site.solids) site.solids s.water h (burdens-most site.gravity light site.solids small few)
+      from_burdens s.load (burdens site.gravity site.solids) site.solids s.water h (burdens_most site.gravity light site.solids small few)
 
   module _ (sound' : T (conductivity_sound site.conductivity site.compressibility)) where
     -- every resistance of a part of the layer on the curve is in range

@@ -28,18 +28,18 @@ from_length site load (B ∷ Bs) (S ∷ Ss) [] h k = refl
 from_length site load (B ∷ Bs) (S ∷ Ss) (W ∷ Ws) h k = ap suc (from_length site load Bs Ss Ws (omega arith) (omega arith))
 
 -- an element for each water height
-pub elements-length : (site : Site) (s : State) → length s.water ≡ length site.solids → length (read_elements site s) ≡ length s.water
+pub elements_length : (site : Site) (s : State) → length s.water ≡ length site.solids → length (read_elements site s) ≡ length s.water
 unfolding read_elements
-elements-length site s h =
+elements_length site s h =
     from_length site s.load (burdens site.gravity site.solids) site.solids s.water
     (omega (arith, burdens-length site.gravity site.solids)) (omega arith)
 
 -- a flow above each element
-pub above-length : (top : Face) (t : ℕ) (es : List Element) → length (flows_above top t es) ≡ length es
+pub above_length : (top : Face) (t : ℕ) (es : List Element) → length (flows_above top t es) ≡ length es
 unfolding flows_above
-above-length top t [] = refl
-above-length top t (e ∷ []) = refl
-above-length top t (e ∷ f ∷ rest) = ap suc (above-length top t (f ∷ rest))
+above_length top t [] = refl
+above_length top t (e ∷ []) = refl
+above_length top t (e ∷ f ∷ rest) = ap suc (above_length top t (f ∷ rest))
 
 -- a new water height for each flow above
 pub moved_length : (below : ℤ) (flows : List ℤ) (water : List ℕ) → length flows ≡ length water →
@@ -51,18 +51,18 @@ moved_length below (above ∷ rest) [] h = refl
 moved_length below (above ∷ rest) (w ∷ ws) h = ap suc (moved_length above rest ws (omega arith))
 
 -- a new water height for each element
-pub flows-moved-length : (top bottom : Face) (t : ℕ) (es : List Element) (water : List ℕ) → length es ≡ length water →
+pub flows_moved_length : (top bottom : Face) (t : ℕ) (es : List Element) (water : List ℕ) → length es ≡ length water →
     length (moved (upward_flows top bottom t es) water) ≡ length water
 unfolding upward_flows moved
-flows-moved-length top bottom t [] water h = h
-flows-moved-length top bottom t (e ∷ rest) water h =
-    moved_length (neg_ℤ (outward bottom t e)) (flows_above top t (e ∷ rest)) water (above-length top t (e ∷ rest) ∙ h)
+flows_moved_length top bottom t [] water h = h
+flows_moved_length top bottom t (e ∷ rest) water h =
+    moved_length (neg_ℤ (outward bottom t e)) (flows_above top t (e ∷ rest)) water (above_length top t (e ∷ rest) ∙ h)
 
 -- one flow more than elements
-pub flows-length : (top bottom : Face) (t : ℕ) (e : Element) (rest : List Element) →
+pub flows_length : (top bottom : Face) (t : ℕ) (e : Element) (rest : List Element) →
     length (upward_flows top bottom t (e ∷ rest)) ≡ suc (length (e ∷ rest))
 unfolding upward_flows
-flows-length top bottom t e rest = ap suc (above-length top t (e ∷ rest))
+flows_length top bottom t e rest = ap suc (above_length top t (e ∷ rest))
 
 -- two lists of one length pair to as many entries
 pub paired-length : {A B C : Type 0} (f : A → B → C) (xs : List A) (ys : List B) → length ys ≡ length xs →
@@ -78,4 +78,4 @@ pub stepped-length : (site : Site) (t : ℕ) (s : State) → length s.water ≡ 
 unfolding stepped
 stepped-length site t s h =
     paired-length new_height s.water (moved (upward_flows site.top site.bottom t (read_elements site s)) s.water)
-    (flows-moved-length site.top site.bottom t (read_elements site s) s.water (elements-length site s h))
+    (flows_moved_length site.top site.bottom t (read_elements site s) s.water (elements_length site s h))

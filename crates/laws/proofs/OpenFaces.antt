@@ -7,7 +7,7 @@ use lib.ListN.{length, get_or}
 use mathlib.Core.List.{List, [], ◌∷◌, map}
 use mathlib.Core.Path.{◌≡◌, refl, sym, ap, ◌∙◌}
 use Rattle.laws.specs.Divisions.{no_face, DividesAtEach, with_bottom, with_top, all_upward}
-use Rattle.numbers.proofs.Quotients.{cut-divides}
+use Rattle.numbers.proofs.Quotients.{cut_divides}
 use Rattle.quantities.specs.declared.Face.{Face}
 use Rattle.quantities.specs.declared.Face.TheVariants.{Closed, Drained}
 use Rattle.rules.specs.Division.{inner_face, outer_faces, faces_above, open_faces, flow_at, remainder_at}
@@ -23,16 +23,16 @@ unfolding outer_faces face_number
 outer_count Closed e = refl
 outer_count (Drained held) e = refl
 
-above-count : (top : Face) (e : Element) (rest : List Element) → length (faces_above top (e ∷ rest)) ≡ length rest + face_number top
+above_count : (top : Face) (e : Element) (rest : List Element) → length (faces_above top (e ∷ rest)) ≡ length rest + face_number top
 unfolding faces_above
-above-count top e [] = outer_count top e ∙ sym (zero-add (face_number top))
-above-count top e (f ∷ rest) = let ih = above-count top f rest in omega (arith, ih)
+above_count top e [] = outer_count top e ∙ sym (zero-add (face_number top))
+above_count top e (f ∷ rest) = let ih = above_count top f rest in omega (arith, ih)
 
 pub open_count : (top bottom : Face) (e : Element) (rest : List Element) →
     length (open_faces top bottom (e ∷ rest)) ≡ length rest + face_number top + face_number bottom
 unfolding open_faces outer_faces face_number
-open_count top Closed e rest = omega (arith, above-count top e rest)
-open_count top (Drained held) e rest = omega (arith, above-count top e rest)
+open_count top Closed e rest = omega (arith, above_count top e rest)
+open_count top (Drained held) e rest = omega (arith, above_count top e rest)
 
 -- ---- by number
 
@@ -78,7 +78,7 @@ get_or-map f (x ∷ l) (suc k) a b h = get_or-map f l k a b (le_of_suc-le-suc h)
 pub divides_at_each : (t : ℕ) (faces : List OpenFace) → ((k : ℕ) → k < length faces → 0 < (get_or faces k no_face).resistance) →
     DividesAtEach t faces (map (flow_at t) faces) (map (remainder_at t) faces)
 divides_at_each t faces resists k h =
-    rw (get_or-map (flow_at t) faces k no_face (pos 0) h, get_or-map (remainder_at t) faces k no_face (pos 0) h) (cut-divides _ _ (resists k h))
+    rw (get_or-map (flow_at t) faces k no_face (pos 0) h, get_or-map (remainder_at t) faces k no_face (pos 0) h) (cut_divides _ _ (resists k h))
 
 -- ---- a step takes these flows
 

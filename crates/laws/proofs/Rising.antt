@@ -15,7 +15,7 @@ use Rattle.quantities.specs.declared.CurveValue.{CurveValue}
 use Rattle.quantities.specs.declared.CurveValue.TheVariants.{On, Off}
 use Rattle.rules.proofs.Falling.{first_abscissa, first_ordinate}
 use Rattle.laws.specs.Segment.{OneWay}
-use Rattle.laws.proofs.Segment.{on_inside, between-on, one_way, spans_bounds, bounds_spans}
+use Rattle.laws.proofs.Segment.{on_inside, between_on, one_way, spans_bounds, bounds_spans}
 
 -- the last point's abscissa and ordinate, 0 where there is no point
 abbrev pub last_abscissa : List Point → ℕ
@@ -27,23 +27,23 @@ last_ordinate [] = 0
 last_ordinate (a ∷ rest) = (last_or a rest).ordinate
 
 -- on a curve that goes one way values lie between the first and the last ordinate
-pub value-between : (l : List Point) (x : ℕ) → OneWay l → T (is_on (curve_at l x)) →
+pub value_between : (l : List Point) (x : ℕ) → OneWay l → T (is_on (curve_at l x)) →
     (first_ordinate l ≤ value_of (curve_at l x)) × (value_of (curve_at l x) ≤ last_ordinate l)
 unfolding curve_at is_on last_or
-value-between [] x w t = absurd t
-value-between (a ∷ []) x w t = absurd t
-value-between (a ∷ b ∷ rest) x w t = let i = on_inside a b rest x w t in (i.least, i.most)
+value_between [] x w t = absurd t
+value_between (a ∷ []) x w t = absurd t
+value_between (a ∷ b ∷ rest) x w t = let i = on_inside a b rest x w t in (i.least, i.most)
 
 -- x is on a curve that goes one way just where it lies between the first and the last abscissa
-pub on-between : (l : List Point) (x : ℕ) → OneWay l → 2 ≤ length l →
+pub on_between : (l : List Point) (x : ℕ) → OneWay l → 2 ≤ length l →
     T (is_on (curve_at l x)) ↔
     ((min (first_abscissa l) (last_abscissa l) ≤ x) × (x ≤ max (first_abscissa l) (last_abscissa l)))
 unfolding last_or
-on-between [] x w h = absurd (omega arith)
-on-between (a ∷ []) x w h = absurd (omega arith)
-on-between (a ∷ b ∷ rest) x w h = (
+on_between [] x w h = absurd (omega arith)
+on_between (a ∷ []) x w h = absurd (omega arith)
+on_between (a ∷ b ∷ rest) x w h = (
   (λ t. spans_bounds a (last_or b rest) x (on_inside a b rest x w t).spanned),
-  λ s. between-on a b rest x w (bounds_spans a (last_or b rest) x s.0 s.1),
+  λ s. between_on a b rest x w (bounds_spans a (last_or b rest) x s.0 s.1),
 )
 
 -- what lies between two abscissas on the curve is on it
@@ -54,7 +54,7 @@ no_gap [] u v x w s t h k = absurd s
 no_gap (a ∷ []) u v x w s t h k = absurd s
 no_gap (a ∷ b ∷ rest) u v x w s t h k =
     let two : 2 ≤ length (a ∷ b ∷ rest) = omega arith in
-    let on = on-between (a ∷ b ∷ rest) in
+    let on = on_between (a ∷ b ∷ rest) in
     (on x w two).1 (omega (arith, (on u w two).0 s, (on v w two).0 t))
 
 -- what is not on a curve is off it
@@ -71,7 +71,7 @@ outside_off [] x w h = refl
 outside_off (a ∷ []) x w h = refl
 outside_off (a ∷ b ∷ rest) x w h =
     off_unless_on (curve_at (a ∷ b ∷ rest) x)
-    (λ t. let (l, m) = (on-between (a ∷ b ∷ rest) x w (omega arith)).0 t in ⊎_elim (λ k. omega arith) (λ k. omega arith) h)
+    (λ t. let (l, m) = (on_between (a ∷ b ∷ rest) x w (omega arith)).0 t in ⊎_elim (λ k. omega arith) (λ k. omega arith) h)
 
 -- ---- rising curves
 
@@ -88,11 +88,11 @@ rising_way (a ∷ rest) t =
     a rest t
 
 -- x is on a rising curve just where it lies between the first and the last abscissa
-pub rising-on : (l : List Point) (x : ℕ) → T (rising l) → 2 ≤ length l →
+pub rising_on : (l : List Point) (x : ℕ) → T (rising l) → 2 ≤ length l →
     T (is_on (curve_at l x)) ↔ ((first_abscissa l ≤ x) × (x ≤ last_abscissa l))
-rising-on l x t h =
+rising_on l x t h =
     let (order, w) = rising_way l t in
-    let e = on-between l x w h in
+    let e = on_between l x w h in
     (λ s. omega (arith, e.0 s), λ s. e.1 (omega arith))
 
 -- ---- falling curves
@@ -110,9 +110,9 @@ falling_way (a ∷ rest) t =
     a rest t
 
 -- x is on a falling curve just where it lies between the last and the first abscissa
-pub falling-on : (l : List Point) (x : ℕ) → T (falling l) → 2 ≤ length l →
+pub falling_on : (l : List Point) (x : ℕ) → T (falling l) → 2 ≤ length l →
     T (is_on (curve_at l x)) ↔ ((last_abscissa l ≤ x) × (x ≤ first_abscissa l))
-falling-on l x t h =
+falling_on l x t h =
     let (order, w) = falling_way l t in
-    let e = on-between l x w h in
+    let e = on_between l x w h in
     (λ s. omega (arith, e.0 s), λ s. e.1 (omega arith))

@@ -15,7 +15,7 @@ use Rattle.numbers.proofs.Searches.{both, joined}
 use Rattle.numbers.proofs.Shares.{interpolates}
 use Rattle.rules.specs.Curve.{Point, spans, interpolated, curve_at, is_on, value_of}
 use Rattle.quantities.specs.declared.CurveValue.TheVariants.{On, Off}
-use Rattle.rules.proofs.Falling.{on-segment}
+use Rattle.rules.proofs.Falling.{on_segment}
 use Rattle.laws.specs.Segment.{Onward, OneWay}
 
 -- ---- one segment
@@ -110,7 +110,7 @@ below_last a (b ∷ rest) w = le_trans w.0.higher (below_last b rest w.1)
 -- what a curve gives at its first point
 pub at_first : (a b : Point) (rest : List Point) → curve_at (a ∷ b ∷ rest) a.abscissa ≡ On a.ordinate
 at_first a b rest =
-    on-segment a b rest a.abscissa (λ v. v ≡ On a.ordinate)
+    on_segment a b rest a.abscissa (λ v. v ≡ On a.ordinate)
     (λ _. ap On (interpolated_first a b))
     (λ outside. absurd (T_not (spans a b a.abscissa) outside (bounds_spans a b a.abscissa (omega arith) (omega arith))))
 
@@ -137,23 +137,23 @@ pub on_inside : (a b : Point) (rest : List Point) (x : ℕ) → OneWay (a ∷ b 
     Inside a (last_or b rest) x (value_of (curve_at (a ∷ b ∷ rest) x))
 unfolding curve_at is_on value_of OneWay last_or
 on_inside a b [] x w t =
-    on-segment a b [] x (λ v. T (is_on v) → Inside a b x (value_of v)) (λ s _. in_first a b [] x w s) (λ _ u. absurd u) t
+    on_segment a b [] x (λ v. T (is_on v) → Inside a b x (value_of v)) (λ s _. in_first a b [] x w s) (λ _ u. absurd u) t
 on_inside a b (c ∷ rest) x w t =
     let ih = on_inside b c rest x w.1 in
-    on-segment a b (c ∷ rest) x (λ v. T (is_on v) → Inside a (last_or c rest) x (value_of v))
+    on_segment a b (c ∷ rest) x (λ v. T (is_on v) → Inside a (last_or c rest) x (value_of v))
     (λ s _. in_first a b (c ∷ rest) x w s)
     (λ _ u. in_rest w.0 (ih u))
     t
 
 -- all that lies between the first and the last point is on the curve
-pub between-on : (a b : Point) (rest : List Point) (x : ℕ) → OneWay (a ∷ b ∷ rest) → T (spans a (last_or b rest) x) →
+pub between_on : (a b : Point) (rest : List Point) (x : ℕ) → OneWay (a ∷ b ∷ rest) → T (spans a (last_or b rest) x) →
     T (is_on (curve_at (a ∷ b ∷ rest) x))
 unfolding curve_at is_on OneWay last_or
-between-on a b [] x w t =
-    on-segment a b [] x (λ v. T (is_on v)) (λ _. tt) (λ outside. absurd (T_not (spans a b x) outside t))
-between-on a b (c ∷ rest) x w t =
-    let ih = between-on b c rest x w.1 in
-    on-segment a b (c ∷ rest) x (λ v. T (is_on v)) (λ _. tt) (λ outside. ih (to_rest w.0 x t outside))
+between_on a b [] x w t =
+    on_segment a b [] x (λ v. T (is_on v)) (λ _. tt) (λ outside. absurd (T_not (spans a b x) outside t))
+between_on a b (c ∷ rest) x w t =
+    let ih = between_on b c rest x w.1 in
+    on_segment a b (c ∷ rest) x (λ v. T (is_on v)) (λ _. tt) (λ outside. ih (to_rest w.0 x t outside))
 
 -- what the first segment spans the rest of the curve, where it gives anything, gives alike
 pub agree : (a b c : Point) (rest : List Point) (x : ℕ) → OneWay (a ∷ b ∷ c ∷ rest) → T (spans a b x) →
@@ -170,12 +170,12 @@ unfolding OneWay is_on
 read_by_segment [] i d x w h s = absurd (omega arith)
 read_by_segment (a ∷ []) i d x w h s = absurd (omega arith)
 read_by_segment (a ∷ b ∷ rest) zero d x w h s =
-    on-segment a b rest x (λ v. v ≡ On (interpolated a b x)) (λ _. refl) (λ outside. absurd (T_not (spans a b x) outside s))
+    on_segment a b rest x (λ v. v ≡ On (interpolated a b x)) (λ _. refl) (λ outside. absurd (T_not (spans a b x) outside s))
 read_by_segment (a ∷ b ∷ []) (suc i) d x w h s = absurd (omega arith)
 read_by_segment (a ∷ b ∷ c ∷ rest) (suc i) d x w h s =
     let ih = read_by_segment (b ∷ c ∷ rest) i d x w.1 (omega arith) s in
     let on : T (is_on (curve_at (b ∷ c ∷ rest) x)) = rw ih tt in
-    on-segment a b (c ∷ rest) x (λ v. v ≡ On (interpolated (get_or (b ∷ c ∷ rest) i d) (get_or (c ∷ rest) i d) x))
+    on_segment a b (c ∷ rest) x (λ v. v ≡ On (interpolated (get_or (b ∷ c ∷ rest) i d) (get_or (c ∷ rest) i d) x))
     (λ s'. sym (agree a b c rest x w s' on) ∙ ih)
     (λ _. ih)
 
@@ -187,7 +187,7 @@ read_by_none [] d x h = refl
 read_by_none (a ∷ []) d x h = refl
 read_by_none (a ∷ b ∷ rest) d x h =
     let ih = read_by_none (b ∷ rest) d x (λ i k. h (suc i) (omega arith)) in
-    on-segment a b rest x (λ v. v ≡ Off) (λ s. absurd (T_not (spans a b x) (h 0 (omega arith)) s)) (λ _. ih)
+    on_segment a b rest x (λ v. v ≡ Off) (λ s. absurd (T_not (spans a b x) (h 0 (omega arith)) s)) (λ _. ih)
 
 -- ---- which curves go one way
 

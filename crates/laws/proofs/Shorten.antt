@@ -17,7 +17,7 @@ use Rattle.rules.specs.Run.{longest_reach, longest_step}
 use Rattle.quantities.specs.declared.Face.{Face}
 use Rattle.laws.specs.Every.{Every}
 use Rattle.laws.proofs.Contacts.{ShortFor, Limiting, short_floor, short_enough, shorter, nothing_short, layer_limiting}
-use Rattle.laws.proofs.Longest.{greatest-is}
+use Rattle.laws.proofs.Longest.{greatest_is}
 use Rattle.laws.specs.Shorten.{shortened}
 
 -- ---- one contact
@@ -65,7 +65,7 @@ greatest-shortened K most cs p =
     let test : ℕ → Bool = λ t. not (any (too_long_at K t) cs) in
     let g = greatest most test in
     let u = shortened K most cs in
-    let of-greatest = greatest-is test (nothing_short K cs) (shorter K cs) most in
+    let of-greatest = greatest_is test (nothing_short K cs) (shorter K cs) most in
     let of-shortened = le_shortened K most cs p in
     let (reach, short) = (of-greatest g).0 (le_refl g) in
     let (reach', short') = (of-shortened u).0 (le_refl u) in
@@ -93,20 +93,20 @@ too_long-shortened K t cs p =
 -- ---- two contacts with one face
 
 -- a greater divisor has no greater quotient
-floor-falls : (R b d : ℕ) → 0 < b → b ≤ d → floor R d ≤ floor R b
-floor-falls R b d p h = (le_floor p (floor R d) R).1 (omega (arith, mul-le-mul_left (floor R d) h, div-mul-le_self R d))
+floor_falls : (R b d : ℕ) → 0 < b → b ≤ d → floor R d ≤ floor R b
+floor_falls R b d p h = (le_floor p (floor R d) R).1 (omega (arith, mul-le-mul_left (floor R d) h, div-mul-le_self R d))
 
 -- two contacts with one face shorten a step like one with the greater sensitivity
-pub greater-sensitivity : (R K c c' : ℕ) → 0 < 2 * c * K → 0 < 2 * c' * K →
+pub greater_sensitivity : (R K c c' : ℕ) → 0 < 2 * c * K → 0 < 2 * c' * K →
     min (floor R (2 * c * K)) (floor R (2 * c' * K)) ≡ floor R (2 * max c c' * K)
-greater-sensitivity R K c c' p p' =
+greater_sensitivity R K c c' p p' =
     by_test (leb c c') (λ _. min (floor R (2 * c * K)) (floor R (2 * c' * K)) ≡ floor R (2 * max c c' * K))
     (λ s.
     let h : max c c' ≡ c' = omega (arith, leb→le c c' s) in
-    rw h (omega (arith, floor-falls R (2 * c * K) (2 * c' * K) p (mul-le-mul_right K (omega arith)))))
+    rw h (omega (arith, floor_falls R (2 * c * K) (2 * c' * K) p (mul-le-mul_right K (omega arith)))))
     (λ s.
     let h : max c c' ≡ c = omega (arith, nleb→lt c c' s) in
-    rw h (omega (arith, floor-falls R (2 * c' * K) (2 * c * K) p' (mul-le-mul_right K (omega arith)))))
+    rw h (omega (arith, floor_falls R (2 * c' * K) (2 * c * K) p' (mul-le-mul_right K (omega arith)))))
 
 -- so one quotient serves both contacts with an inner face
 pub inner_shortened : (K most : ℕ) (top : Face) (e f : Element) (rest : List Element) →
@@ -115,7 +115,7 @@ pub inner_shortened : (K most : ℕ) (top : Face) (e f : Element) (rest : List E
     shortened K (min most (floor (inner_resistance e f) (2 * max e.sensitivity f.sensitivity * K))) (contacts_above top (f ∷ rest))
 unfolding shortened contacts_above
 inner_shortened K most top e f rest p p' =
-    let g = greater-sensitivity (inner_resistance e f) K e.sensitivity f.sensitivity p p' in
+    let g = greater_sensitivity (inner_resistance e f) K e.sensitivity f.sensitivity p p' in
     ap (λ (t : ℕ). shortened K t (contacts_above top (f ∷ rest))) (omega arith)
 
 -- ---- a run

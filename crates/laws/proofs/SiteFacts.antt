@@ -72,10 +72,10 @@ held-within Closed held h e = tt
 held-within (Drained other) held h e = rw (eqℤ→eq other.0 held.0 (passed e)) h
 
 -- P between two levels is in range
-pub bottom-within : (top bottom : ℤ) → Between (pos 0) (pos level_limits.most) top → Between (pos 0) (pos level_limits.most) bottom →
+pub bottom_within : (top bottom : ℤ) → Between (pos 0) (pos level_limits.most) top → Between (pos 0) (pos level_limits.most) bottom →
     Within (bottom_pressure top bottom).0 most_head_pressure
 unfolding bottom_pressure pressure_of
-bottom-within top bottom t b =
+bottom_within top bottom t b =
     let difference : Within (bottom -ℤ top) level_limits.most = omega (intervals, one_sided (bottom -ℤ top), sub_parts bottom top, t.0, t.1, b.0, b.1) in
     within-cut {b = 100_000} (lit< tt) (within-mul difference (within_pos 981))
 
@@ -86,8 +86,8 @@ pub record SiteFacts (r : Record) : Type 0 where
   pub compressibility : compressibility_sound (points r.soil.counts.compressibility r.soil.compressibility_void r.soil.compressibility_stress) ≡ true
   pub conductivity : conductivity_sound (points r.soil.counts.conductivity r.soil.conductivity_void r.soil.conductivity) (points r.soil.counts.compressibility r.soil.compressibility_void r.soil.compressibility_stress) ≡ true
   pub table : table_sound (points r.layer.frame.table_points r.layer.table_time r.layer.table_load) ≡ true
-  pub top-held : HeldWithin r.layer.frame.top
-  pub bottom-held : HeldWithin r.layer.frame.bottom
+  pub top_held : HeldWithin r.layer.frame.top
+  pub bottom_held : HeldWithin r.layer.frame.bottom
 
 pub site_facts : (r : Record) → site_sound r ≡ true → SiteFacts r
 unfolding record_site record_state top_pressure
@@ -100,6 +100,6 @@ site_facts r e =
       compressibility = p.compressibility;
       conductivity = p.conductivity;
       table = p.table;
-      top-held = held-within r.layer.frame.top top_pressure (within_le (within_pos 0) (lit≤ tt)) p.top;
-      bottom-held = held-within r.layer.frame.bottom _ (bottom-within _ _ sizes.top_level_kept sizes.bottom_level_kept) p.bottom;
+      top_held = held-within r.layer.frame.top top_pressure (within_le (within_pos 0) (lit≤ tt)) p.top;
+      bottom_held = held-within r.layer.frame.bottom _ (bottom_within _ _ sizes.top_level_kept sizes.bottom_level_kept) p.bottom;
     }

@@ -34,9 +34,9 @@ each_within limits n numbers t j h =
 pub record SoundSizes (n : ℕ) (top_level bottom_level : ℤ) (solids water : List ℕ) : Type 0 where
   pub top_level_kept : Between (pos 0) (pos level_limits.most) top_level
   pub bottom_level_kept : Between (pos 0) (pos level_limits.most) bottom_level
-  pub solids-least : (j : ℕ) → j < n → solids_limits.least ≤ get_or solids j 0
-  pub solids-most : (j : ℕ) → j < n → get_or solids j 0 ≤ solids_limits.most
-  pub water-most : (j : ℕ) → j < n → get_or water j 0 ≤ water_limits.most
+  pub solids_least : (j : ℕ) → j < n → solids_limits.least ≤ get_or solids j 0
+  pub solids_most : (j : ℕ) → j < n → get_or solids j 0 ≤ solids_limits.most
+  pub water_most : (j : ℕ) → j < n → get_or water j 0 ≤ water_limits.most
 
 pub sound_sizes : (site : Site) (n : ℕ) (solids water : List ℕ) → site.solids ≡ first_places n solids →
     sizes_sound site (first_places n water) ≡ true → SoundSizes n site.top_level site.bottom_level solids water
@@ -52,7 +52,7 @@ sound_sizes site n solids water same e =
     record {
       top_level_kept = signed_between level_limits site.top_level top;
       bottom_level_kept = signed_between level_limits site.bottom_level bottom;
-      solids-least = λ j h. (each_within solids_limits n solids all-solids j h).0;
-      solids-most = λ j h. (each_within solids_limits n solids all-solids j h).1;
-      water-most = λ j h. (each_within water_limits n water waters j h).1;
+      solids_least = λ j h. (each_within solids_limits n solids all-solids j h).0;
+      solids_most = λ j h. (each_within solids_limits n solids all-solids j h).1;
+      water_most = λ j h. (each_within water_limits n water waters j h).1;
     }

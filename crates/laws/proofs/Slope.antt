@@ -12,7 +12,7 @@ use Rattle.numbers.proofs.Division.{ceil_pos}
 use Rattle.numbers.proofs.Shares.{interpolates}
 use Rattle.rules.specs.Curve.{Point, spans, interpolated, curve_at, is_on, value_of, falling, curve_steepness}
 use Rattle.quantities.specs.declared.CurveValue.TheVariants.{On}
-use Rattle.rules.proofs.Falling.{Falls, on-segment, falling_parts, spans-within, within-spans, on_from_first}
+use Rattle.rules.proofs.Falling.{Falls, on_segment, falling_parts, spans-within, within-spans, on_from_first}
 use Rattle.laws.proofs.Segment.{at_first, interpolated_last}
 
 -- how far apart two numbers lie, where their order is known
@@ -68,15 +68,15 @@ curve_slope (a ∷ b ∷ rest) x y f h t u =
     let far = curve_slope (b ∷ rest) x y g h in
     let near = curve_slope (b ∷ rest) x b.abscissa g in
     let right = (on_from_first (a ∷ b ∷ rest) y f u).0 in
-    on-segment a b rest x (λ v. T (is_on v) → value_of v ≤ value_of (curve_at (a ∷ b ∷ rest) y) + curve_steepness (a ∷ b ∷ rest) * (y - x))
+    on_segment a b rest x (λ v. T (is_on v) → value_of v ≤ value_of (curve_at (a ∷ b ∷ rest) y) + curve_steepness (a ∷ b ∷ rest) * (y - x))
     (λ sx _.
-    on-segment a b rest y (λ w. interpolated a b x ≤ value_of w + curve_steepness (a ∷ b ∷ rest) * (y - x))
+    on_segment a b rest y (λ w. interpolated a b x ≤ value_of w + curve_steepness (a ∷ b ∷ rest) * (y - x))
     (λ _. steeper C (max C G) (y - x) (interpolated a b x) (interpolated a b y) (omega arith) (segment_slope a b s x y h right))
     (λ ny. absurd (T_not (spans a b y) ny (within-spans a b s y (le_trans (spans-within a b s x sx).0 h) right))))
     (λ nx on.
     let left = (on_from_first (b ∷ rest) x g on).0 in
     let e = first_on b rest x on in
-    on-segment a b rest y (λ w. T (is_on w) → value_of (curve_at (b ∷ rest) x) ≤ value_of w + curve_steepness (a ∷ b ∷ rest) * (y - x))
+    on_segment a b rest y (λ w. T (is_on w) → value_of (curve_at (b ∷ rest) x) ≤ value_of w + curve_steepness (a ∷ b ∷ rest) * (y - x))
     (λ sy _. across a b s G x y (value_of (curve_at (b ∷ rest) x)) left (spans-within a b s y sy).0 right (rw e at (near left on (rw e tt))))
     (λ ny on'. steeper G (max C G) (y - x) (value_of (curve_at (b ∷ rest) x)) (value_of (curve_at (b ∷ rest) y)) (omega arith) (far on on'))
     u)

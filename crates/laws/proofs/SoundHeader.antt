@@ -22,13 +22,13 @@ kept limits n t = let (low, high) = both (leb limits.least n) (leb n limits.most
 pub record SoundHeader
     (top bottom elements compressibility_points conductivity_points table_points start gravity : ℕ) : Type 0 where
   pub top_kept : Kept flag_limits top
-  pub bottom-kept : Kept flag_limits bottom
-  pub elements-kept : Kept element_limits elements
-  pub compressibility-kept : Kept curve_limits compressibility_points
-  pub conductivity-kept : Kept curve_limits conductivity_points
+  pub bottom_kept : Kept flag_limits bottom
+  pub elements_kept : Kept element_limits elements
+  pub compressibility_kept : Kept curve_limits compressibility_points
+  pub conductivity_kept : Kept curve_limits conductivity_points
   pub table_kept : Kept table_limits table_points
   pub start_kept : Kept start_limits start
-  pub gravity-kept : Kept gravity_limits gravity
+  pub gravity_kept : Kept gravity_limits gravity
 
 pub sound_header : (top bottom elements compressibility_points conductivity_points table_points start gravity : ℕ) →
     form_sound top bottom elements compressibility_points conductivity_points table_points start gravity ≡ true →
@@ -50,19 +50,19 @@ sound_header top bottom elements compressibility_points conductivity_points tabl
     let (top_kept, bottom_kept) = both (within flag_limits top) (within flag_limits bottom) first2 in
     record {
       top_kept = kept _ _ top_kept;
-      bottom-kept = kept _ _ bottom_kept;
-      elements-kept = kept _ _ elements_kept;
-      compressibility-kept = kept _ _ compressibility_kept;
-      conductivity-kept = kept _ _ conductivity_kept;
+      bottom_kept = kept _ _ bottom_kept;
+      elements_kept = kept _ _ elements_kept;
+      compressibility_kept = kept _ _ compressibility_kept;
+      conductivity_kept = kept _ _ conductivity_kept;
       table_kept = kept _ _ table_kept;
       start_kept = kept _ _ start_kept;
-      gravity-kept = kept _ _ gravity_kept;
+      gravity_kept = kept _ _ gravity_kept;
     }
 
 -- those of a header that cause 3 does not refuse
-pub kept-header : (h : Header) → header_sound h ≡ true →
+pub kept_header : (h : Header) → header_sound h ≡ true →
     SoundHeader h.top h.bottom h.elements h.compressibility_points h.conductivity_points h.table_points h.start h.gravity
 unfolding header_sound
-kept-header h e =
+kept_header h e =
     sound_header h.top h.bottom h.elements h.compressibility_points h.conductivity_points h.table_points h.start
     h.gravity e

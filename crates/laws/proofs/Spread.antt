@@ -51,11 +51,11 @@ module _ (site : Site) {P : ℤ → Type 0} (convex : Convex P)
     e = element site load B S w
 
     -- an element on the curve before and after stays in the set if it bears what crosses each of its faces
-    kept-element : (above below : ℤ) → 0 < S → T (on S (pos w)) → T (on S (pos w -ℤ above +ℤ below)) →
+    kept_element : (above below : ℤ) → 0 < S → T (on S (pos w)) → T (on S (pos w -ℤ above +ℤ below)) →
         P e.excess → Bears P (K e) e.excess (neg_ℤ above) → Bears P (K e) e.excess below →
         P (element site load B S (new_height w (pos w -ℤ above +ℤ below))).excess
     unfolding element new_height
-    kept-element above below solid old new p leaves enters =
+    kept_element above below solid old new p leaves enters =
         let (same, on') = on_curve_parts (skeleton site) S w (pos w -ℤ above +ℤ below) new in
         principle (fall S solid) w (new_height w (pos w -ℤ above +ℤ below)) (on_curve_parts (skeleton site) S w (pos w) old).1 on'
         convex (load +ℤ pos B) (neg_ℤ above) below (same ∙ +ℤ_assoc (pos w) (neg_ℤ above) below) p leaves enters
@@ -69,7 +69,7 @@ module _ (site : Site) {P : ℤ → Type 0} (convex : Convex P)
         let out = outward site.top t e in
         let before = (both (on S (pos w)) true old).0 in
         let after = (both (on S (pos w -ℤ out +ℤ below)) true new).0 in
-        kept-element out below solid before after p (bears_outer site.top e top p short) enters
+        kept_element out below solid before after p (bears_outer site.top e top p short) enters
 
   module _ (load : ℤ) where
     -- the elements, all water on the curve, and the set kept, of a part of the layer
@@ -110,7 +110,7 @@ module _ (site : Site) {P : ℤ → Type 0} (convex : Convex P)
         let (new-here, new-above) = both (on S (pos w -ℤ u +ℤ below)) (all_on (S' ∷ Ss) rest) new in
         let leaves = bears_leaving convex (K e) t R e.excess f.excess (omega (arith, short.0)) kept.0 kept.1.0 in
         let arrives = bears_entering convex (K f) t R f.excess e.excess (omega (arith, short.1.0)) kept.1.0 kept.0 in (
-          kept-element load B S w u below solid.0 old-here new-here kept.0 leaves enters,
+          kept_element load B S w u below solid.0 old-here new-here kept.0 leaves enters,
           spread_up (S' ∷ Ss) (w' ∷ Ws) u solid.1 top kept.1 short.1.1 arrives old-above new-above,
         )
 

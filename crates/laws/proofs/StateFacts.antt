@@ -39,10 +39,10 @@ outflow_bound outflow clock e = record { bound = leb→le (nat_abs outflow) (out
 pub record StateFacts (r : Record) : Type 0 where
   pub is_on_curve : all_on_curve (skeleton (record_site r)) (record_site r).solids (map pos (record_state r).water) ≡ true
   pub load_between : Between (pos 0) (pos stress_limits.most) r.layer.progress.load.0
-  pub clock-most : r.layer.progress.clock.0 ≤ clock_limits.most
+  pub clock_most : r.layer.progress.clock.0 ≤ clock_limits.most
   pub starting_most : r.layer.frame.starting_water ≤ starting_water_limits.most
-  pub top-bound : Within r.layer.progress.top_outflow.0 (outflow_rate * r.layer.progress.clock.0)
-  pub bottom-bound : Within r.layer.progress.bottom_outflow.0 (outflow_rate * r.layer.progress.clock.0)
+  pub top_bound : Within r.layer.progress.top_outflow.0 (outflow_rate * r.layer.progress.clock.0)
+  pub bottom_bound : Within r.layer.progress.bottom_outflow.0 (outflow_rate * r.layer.progress.clock.0)
   pub balance : pos r.layer.frame.starting_water ≡ pos (sum (record_state r).water) +ℤ r.layer.progress.top_outflow.0 +ℤ r.layer.progress.bottom_outflow.0
 
 pub state_facts : (r : Record) → state_sound r ≡ true → StateFacts r
@@ -61,9 +61,9 @@ state_facts r e =
     record {
       is_on_curve = is_true a on;
       load_between = signed_between stress_limits s.load loaded;
-      clock-most = (within_parts clock_limits s.clock timed).1;
+      clock_most = (within_parts clock_limits s.clock timed).1;
       starting_most = (within_parts starting_water_limits r.layer.frame.starting_water starting).1;
-      top-bound = outflow_bound s.top_outflow s.clock (is_true t top);
-      bottom-bound = outflow_bound s.bottom_outflow s.clock (is_true u bottom);
+      top_bound = outflow_bound s.top_outflow s.clock (is_true t top);
+      bottom_bound = outflow_bound s.bottom_outflow s.clock (is_true u bottom);
       balance = eqℤ→eq _ _ balanced;
     }

@@ -12,10 +12,10 @@ use Rattle.rules.specs.Curve.{Point, falling, compressibility_sound, curve_steep
 use Rattle.quantities.specs.Quantities.{within, void_limits, stress_limits}
 
 -- one segment of a falling curve
-segment-falls : (a b : Point) (rest : List Point) → T (falling (a ∷ b ∷ rest)) →
+segment_falls : (a b : Point) (rest : List Point) → T (falling (a ∷ b ∷ rest)) →
     (a.ordinate < b.ordinate) × (b.abscissa < a.abscissa) × T (falling (b ∷ rest))
 unfolding falling neighbours
-segment-falls a b rest f =
+segment_falls a b rest f =
     let (both_ways, more) = both (ltb a.ordinate b.ordinate && ltb b.abscissa a.abscissa) (falling (b ∷ rest)) f in
     let (up, down) = both (ltb a.ordinate b.ordinate) (ltb b.abscissa a.abscissa) both_ways in
     (ltb→lt a.ordinate b.ordinate up, ltb→lt b.abscissa a.abscissa down, more)
@@ -26,7 +26,7 @@ unfolding curve_steepness
 steep_positive [] f two = absurd (omega arith)
 steep_positive (a ∷ []) f two = absurd (omega arith)
 steep_positive (a ∷ b ∷ rest) f two =
-    let (up, down, more) = segment-falls a b rest f in
+    let (up, down, more) = segment_falls a b rest f in
     omega (arith, ceil_pos {b = a.abscissa - b.abscissa} (omega arith) (b.ordinate - a.ordinate) (omega arith))
 
 abbrev in_limits : Point → Bool
@@ -38,7 +38,7 @@ unfolding curve_steepness all within
 steep_within [] t f = omega arith
 steep_within (a ∷ []) t f = omega arith
 steep_within (a ∷ b ∷ rest) t f =
-    let (up, down, more) = segment-falls a b rest f in
+    let (up, down, more) = segment_falls a b rest f in
     let later = (both (in_limits a) (all in_limits (b ∷ rest)) t).1 in
     let (first, others) = both (in_limits b) (all in_limits rest) later in
     let kept = (both (within void_limits b.abscissa) (within stress_limits b.ordinate) first).1 in

@@ -32,13 +32,13 @@ module _ (S : ℕ) (solid : 0 < S) where
   sensitivity_pos = ceil_pos solid void_unit (lit< tt)
 
   -- solids and void ratio within their limits, the water is within its own
-  pub water-bound : (W : ℕ) → S ≤ solids_limits.most → void_ratio S W ≤ void_limits.most → W ≤ water_limits.most
+  pub water_bound : (W : ℕ) → S ≤ solids_limits.most → void_ratio S W ≤ void_limits.most → W ≤ water_limits.most
   unfolding void_ratio
-  water-bound W h k =
+  water_bound W h k =
       let (whole, part) = floor-remainder solid (W * void_unit) in
       omega (arith, mul-le-mul k (le_refl S))
 
   -- an element on a sound compressibility curve has water within its limits
-  pub water-on_curve : (l : List Point) (W : ℕ) → S ≤ solids_limits.most → T (compressibility_sound l) → T (is_on (curve_at l (void_ratio S W))) →
+  pub water_on_curve : (l : List Point) (W : ℕ) → S ≤ solids_limits.most → T (compressibility_sound l) → T (is_on (curve_at l (void_ratio S W))) →
       W ≤ water_limits.most
-  water-on_curve l W h sound on = water-bound W h (compressibility_ranged l (void_ratio S W) sound on).most
+  water_on_curve l W h sound on = water_bound W h (compressibility_ranged l (void_ratio S W) sound on).most

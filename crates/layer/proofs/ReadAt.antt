@@ -5,7 +5,7 @@ use lib.IntN.{ℤ}
 use mathlib.Core.List.{List}
 use Rattle.laws.proofs.Excess as Excess
 use Rattle.laws.proofs.Ranges.{conductivity_ranged, conducts}
-use Rattle.laws.proofs.VoidRatio.{water-on_curve}
+use Rattle.laws.proofs.VoidRatio.{water_on_curve}
 use Rattle.layer.specs.Soil.{SoilSound, OnSoil}
 use Rattle.numbers.proofs.Searches.{passed}
 use Rattle.rules.specs.Curve.{points, curve_at, is_on, value_of}
@@ -14,13 +14,13 @@ use Rattle.quantities.specs.Quantities.{stress_limits, conductivity_limits, wate
 
 module _ (m : ℕ) (void stress : List ℕ) (n : ℕ) (conductivity_void conductivity : List ℕ) (soil : SoilSound m void stress n conductivity_void conductivity)
     (load : ℤ) (B S W : ℕ) (on : OnSoil m void stress load B S W) where
-  is-on : T (is_on (curve_at (points m void stress) (void_ratio S W)))
+  is_on_lem : T (is_on (curve_at (points m void stress) (void_ratio S W)))
   unfolding effective_stress
-  is-on = passed on.is_on_curve
+  is_on_lem = passed on.is_on_curve
 
-  pub water-most : W ≤ water_limits.most
-  water-most =
-      water-on_curve S on.solids_positive (points m void stress) W on.solids-most (passed soil.compressibility_is_sound) is-on
+  pub water_most : W ≤ water_limits.most
+  water_most =
+      water_on_curve S on.solids_positive (points m void stress) W on.solids_most (passed soil.compressibility_is_sound) is_on_lem
 
   pub stress_most : value_of (effective_stress (skeleton_of (points m void stress)) S W) ≤ stress_limits.most
   unfolding effective_stress
@@ -34,6 +34,6 @@ module _ (m : ℕ) (void stress : List ℕ) (n : ℕ) (conductivity_void conduct
       let first = points m void stress in
       let second = points n conductivity_void conductivity in
       let sound = passed soil.conductivity_is_sound in
-      let on-second = conducts second first (void_ratio S W) (passed soil.compressibility_is_sound) sound is-on in
+      let on-second = conducts second first (void_ratio S W) (passed soil.compressibility_is_sound) sound is_on_lem in
       let r = conductivity_ranged second first (void_ratio S W) sound on-second in
       (r.lowest, r.highest)

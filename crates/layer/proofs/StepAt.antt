@@ -10,7 +10,7 @@ use Rattle.laws.specs.Bounds.{lowest_water, highest_water}
 use Rattle.laws.proofs.Bounds.{on_curve_bounds}
 use Rattle.laws.proofs.Rising.{last_abscissa}
 use Rattle.laws.proofs.Index.{element_at, moved_at}
-use Rattle.laws.proofs.Lengths.{elements-length, above-length, moved_length}
+use Rattle.laws.proofs.Lengths.{elements_length, above_length, moved_length}
 use Rattle.element.specs.Elements.{element_of, element_in, elements_in, flow_above}
 use Rattle.water.specs.Water.{new_water, stays_at}
 use Rattle.numbers.specs.Arrays.{tabulate, first_places, every_index}
@@ -60,17 +60,17 @@ unfolding still outer_contacts outer_resistance
 outer_still Closed e = refl
 outer_still (Drained held) e = refl
 
-contacts-above-still : (top : Face) (es : List Element) → contacts_above top (map still es) ≡ contacts_above top es
+contacts_above-still : (top : Face) (es : List Element) → contacts_above top (map still es) ≡ contacts_above top es
 unfolding still contacts_above inner_resistance
-contacts-above-still top [] = refl
-contacts-above-still top (e ∷ []) = outer_still top e
-contacts-above-still top (e ∷ f ∷ rest) =
-    ap (λ (l : List Contact). contact e (inner_resistance e f) ∷ contact f (inner_resistance e f) ∷ l) (contacts-above-still top (f ∷ rest))
+contacts_above-still top [] = refl
+contacts_above-still top (e ∷ []) = outer_still top e
+contacts_above-still top (e ∷ f ∷ rest) =
+    ap (λ (l : List Contact). contact e (inner_resistance e f) ∷ contact f (inner_resistance e f) ∷ l) (contacts_above-still top (f ∷ rest))
 
 contacts-still : (top bottom : Face) (es : List Element) → contacts top bottom (map still es) ≡ contacts top bottom es
 unfolding contacts
 contacts-still top bottom [] = refl
-contacts-still top bottom (e ∷ rest) = rw (outer_still bottom e, contacts-above-still top (e ∷ rest)) refl
+contacts-still top bottom (e ∷ rest) = rw (outer_still bottom e, contacts_above-still top (e ∷ rest)) refl
 
 -- ---- the elements of a layer
 
@@ -86,7 +86,7 @@ module _ (n : ℕ) (excess : List ℤ) (resistance sensitivity : List ℕ) where
       let same : map insensitive es ≡ bare = map-tabulate insensitive n (element_in excess resistance sensitivity) in
       sym (above_insensitive top t es) ∙ ap (flows_above top t) same ∙
       tabulated n (flow_above top t n excess resistance) (flows_above top t bare) (pos 0)
-      (above-length top t bare ∙ length-tabulate n (element_in excess resistance [])) (λ k h. refl)
+      (above_length top t bare ∙ length-tabulate n (element_in excess resistance [])) (λ k h. refl)
 
   -- all flows, that of the bottom first
   pub upward-flows_in : (top bottom : Face) (t : ℕ) → 0 < n →
@@ -175,7 +175,7 @@ module _ (site : Site) (s : State) (n : ℕ) (solids_many : length site.solids �
   unfolding elements_in layer.element
   elements_in_lem p r c =
       tabulated n (element_in excess resistance sensitivity) (read_elements site s) (element_of (pos 0) 0 0)
-      (elements-length site s (water_many ∙ sym solids_many) ∙ water_many)
+      (elements_length site s (water_many ∙ sym solids_many) ∙ water_many)
       (λ j h.
       element_at site s j (element_of (pos 0) 0 0) (rw solids_many h) (rw water_many h) ∙
       rw (p j h, r j h, c j h, burden_at_lem site.gravity site.solids j 0 (rw solids_many h)) refl)

@@ -30,6 +30,6 @@ pub record Stands (h : Held) : Type 0 where
   pub soil :
       SoilSound h.soil.counts.compressibility h.soil.compressibility_void h.soil.compressibility_stress
       h.soil.counts.conductivity h.soil.conductivity_void h.soil.conductivity
-  pub on-soil : (j : ℕ) → j < h.elements →
+  pub on_soil : (j : ℕ) → j < h.elements →
       OnSoil h.soil.counts.compressibility h.soil.compressibility_void h.soil.compressibility_stress h.load
       (get_or h.burden j 0) (get_or h.solids j 0) (get_or h.water j 0)

@@ -18,7 +18,7 @@ pub record SoilSound (compressibility_points : ℕ) (void stress : List ℕ) (co
 -- an element on the curve, with its load and burden in range
 pub record OnSoil (compressibility_points : ℕ) (void stress : List ℕ) (load : ℤ) (burden solids water : ℕ) : Type 0 where
   pub load_between : Between (pos 0) (pos stress_limits.most) load
-  pub burden-most : burden ≤ most_burden
+  pub burden_most : burden ≤ most_burden
   pub solids_positive : 0 < solids
-  pub solids-most : solids ≤ solids_limits.most
+  pub solids_most : solids ≤ solids_limits.most
   pub is_on_curve : is_on (effective_stress (skeleton_of (points compressibility_points void stress)) solids water) ≡ true

@@ -81,13 +81,11 @@ pub fn read_elements<'a>(
     excess: &mut [i64; 128],
     resistance: &mut [u64; 128],
 )
-    ghost h: { Held }
-    requires water_value { held_of (soil_of counts void.now stress.now conductivity_void.now conductivity.now) elements load.0 burden.now solids.now water.now ≡ h }
     requires elements_le_most { elements ≤ element_limits.most }
-    requires stands { Stands h }
+    requires stands { let h : Held = held_of (soil_of counts void.now stress.now conductivity_void.now conductivity.now) elements load.0 burden.now solids.now water.now in Stands h }
     requires excess_len { (length excess.old ≡ 128) × (length resistance.old ≡ 128) × (length stress_segment.old ≡ 128) × (length conductivity_segment.old ≡ 128) }
-    ensures excess_after { excess.new ≡ filled excess.old elements (excess_at h) }
-    ensures resistance_after { resistance.new ≡ filled resistance.old elements (resistance_at h) }
+    ensures excess_after { let h : Held = held_of (soil_of counts void.now stress.now conductivity_void.now conductivity.now) elements load.0 burden.now solids.now water.now in excess.new ≡ filled excess.old elements (excess_at h) }
+    ensures resistance_after { let h : Held = held_of (soil_of counts void.now stress.now conductivity_void.now conductivity.now) elements load.0 burden.now solids.now water.now in resistance.new ≡ filled resistance.old elements (resistance_at h) }
     ensures segments { Segments elements counts.compressibility stress_segment.old stress_segment.new }
     ensures segments_2 { Segments elements counts.conductivity conductivity_segment.old conductivity_segment.new }
 {

@@ -65,10 +65,10 @@ pub keeps : {stays : Bool} (n : ℕ) (water : List ℕ) (flows : List ℤ) → s
 unfolding water_by
 keeps n water flows e = rw e refl
 
-pub moves-on : {stays : Bool} (n : ℕ) (water : List ℕ) (flows : List ℤ) → stays ≡ true →
+pub moves_on : {stays : Bool} (n : ℕ) (water : List ℕ) (flows : List ℤ) → stays ≡ true →
     overlaid (new_heights n water flows) water ≡ water_by stays n water flows
 unfolding water_by
-moves-on n water flows e = rw e refl
+moves_on n water flows e = rw e refl
 
 -- and what it gave tells whether it stays
 pub leaves_off : (stays : Bool) (flows : List ℤ) → Leaves ≡ moved_by stays flows → stays ≡ false
@@ -76,15 +76,15 @@ unfolding moved_by
 leaves_off true flows e = absurd (subst T (ap (λ (m : Moved). elim m as (λ _. Bool) [ Leaves ↦ true | Flows a b ↦ false ]) e) tt)
 leaves_off false flows e = refl
 
-pub flows-on : (stays : Bool) (flows : List ℤ) (first last : ℤ) → Flows first last ≡ moved_by stays flows →
+pub flows_on : (stays : Bool) (flows : List ℤ) (first last : ℤ) → Flows first last ≡ moved_by stays flows →
     (stays ≡ true) × (first ≡ first_or (pos 0) flows) × (last ≡ last_or (pos 0) flows)
 unfolding moved_by
-flows-on true flows first last e = (
+flows_on true flows first last e = (
   refl,
   ap (λ (m : Moved). elim m as (λ _. ℤ) [ Leaves ↦ pos 0 | Flows x y ↦ x ]) e,
   ap (λ (m : Moved). elim m as (λ _. ℤ) [ Leaves ↦ pos 0 | Flows x y ↦ y ]) e,
 )
-flows-on false flows first last e = absurd (subst T (ap (λ (m : Moved). elim m as (λ _. Bool) [ Leaves ↦ false | Flows x y ↦ true ]) e) tt)
+flows_on false flows first last e = absurd (subst T (ap (λ (m : Moved). elim m as (λ _. Bool) [ Leaves ↦ false | Flows x y ↦ true ]) e) tt)
 
 -- ---- what the longest step gives
 
@@ -113,17 +113,17 @@ module _ (top bottom : Face) (n : ℕ) (low high water : List ℕ) (excess : Lis
         Gives longest (NoneTaken OffCurve) water' above'
     off_curve t e some gave moved filled = rw e (off_after t some gave moved filled)
 
-    on-after : (t : ℕ) → 0 < t → {first last : ℤ} → Flows first last ≡ moved_in n low high water (flowing t) →
+    on_after : (t : ℕ) → 0 < t → {first last : ℤ} → Flows first last ≡ moved_in n low high water (flowing t) →
         water' ≡ water_in n low high water (flowing t) → above' ≡ filled above n (flow_above top t n excess resistance) →
         Gives t (Taken t first last) water' above'
     unfolding longest_by water_longest flows_longest
-    on-after zero some gave moved filled = absurd (omega arith)
-    on-after (suc t) some gave moved filled = (ap (longest_by (suc t)) gave, moved, filled)
+    on_after zero some gave moved filled = absurd (omega arith)
+    on_after (suc t) some gave moved filled = (ap (longest_by (suc t)) gave, moved, filled)
 
     pub is_on_curve : {longest : ℕ} (t : ℕ) → longest ≡ t → 0 < t → {first last : ℤ} → Flows first last ≡ moved_in n low high water (flowing t) →
         water' ≡ water_in n low high water (flowing t) → above' ≡ filled above n (flow_above top t n excess resistance) →
         Gives longest (Taken t first last) water' above'
-    is_on_curve t e some gave moved filled = rw e (on-after t some gave moved filled)
+    is_on_curve t e some gave moved filled = rw e (on_after t some gave moved filled)
 
 -- what stays between bounds is not negative
 pub stays_positive : (n : ℕ) (lowest : ℤ) (above : List ℤ) (water low high : List ℕ) →
@@ -185,9 +185,9 @@ module _ (n : ℕ) (some_element : 0 < n) (top bottom : Face) (t : ℕ) (excess 
         ap (λ (l : List ℤ). moved l (first_places n water)) flows_are ∙
         moved_in_lem n lowest above water (flow_above top t n excess resistance) above_at
 
-    pub water-is : filled water n (height_after lowest above water) ≡ overlaid (new_heights n water flows) water
+    pub water_is : filled water n (height_after lowest above water) ≡ overlaid (new_heights n water flows) water
     unfolding filled first_places
-    water-is =
+    water_is =
         ap (λ (l : List ℕ). overlaid l water)
         (sym (ap (paired new_height (first_places n water)) new_is ∙ paired-tabulate new_height n (λ j. get_or water j 0) (new_water lowest above water)))
 
@@ -213,7 +213,7 @@ module _ (n : ℕ) (some_element : 0 < n) (top bottom : Face) (t : ℕ) (excess 
     pub movable : HeldWithin top → HeldWithin bottom → t ≤ step_limits.most → Readable n excess resistance →
         ((j : ℕ) → j < n → get_or water j 0 ≤ water_limits.most) → Movable n lowest above water
     movable held held' short readable few = record {
-      lowest-within = within_neg (outward_range bottom t _ held' (readable.excess-within 0 some_element) short);
-      above_within = λ j h. rw (above_at j h) (above_range top held t short n excess resistance readable.excess-within j h);
-      water-most = few;
+      lowest_within = within_neg (outward_range bottom t _ held' (readable.excess_within 0 some_element) short);
+      above_within = λ j h. rw (above_at j h) (above_range top held t short n excess resistance readable.excess_within j h);
+      water_most = few;
     }

@@ -38,16 +38,14 @@ pub fn advance<'a>(
     above: &mut [i64; 128],
     water: &mut [u64; 128],
 ) -> Moved
-    ghost flows: { List ℤ }
-    requires resistance_value { flows_in top bottom t elements excess.now resistance.now ≡ flows }
     requires elements_nonzero { (0 < elements) × (elements ≤ element_limits.most) }
     requires held_within { HeldWithin top × HeldWithin bottom }
     requires t_le_most { t ≤ step_limits.most }
     requires readable { Readable elements excess.now resistance.now }
     requires by_index { (j : ℕ) → j < elements → (get_or low.now j 0 ≤ water_limits.most) × (get_or high.now j 0 ≤ water_limits.most) × (get_or water.old j 0 ≤ water_limits.most) }
     requires above_len { (length above.old ≡ 128) × (length water.old ≡ 128) }
-    ensures value { result ≡ moved_in elements low.now high.now water.old flows }
-    ensures water_after { water.new ≡ water_in elements low.now high.now water.old flows }
+    ensures value { let flows : List ℤ = flows_in top bottom t elements excess.now resistance.now in result ≡ moved_in elements low.now high.now water.old flows }
+    ensures water_after { let flows : List ℤ = flows_in top bottom t elements excess.now resistance.now in water.new ≡ water_in elements low.now high.now water.old flows }
     ensures above_after { above.new ≡ filled above.old elements (flow_above top t elements excess.now resistance.now) }
 {
     let lowest = flows::all_flows(elements, top, bottom, t, excess, resistance, above);
@@ -82,17 +80,15 @@ pub fn advance_longest<'a>(
     above: &mut [i64; 128],
     water: &mut [u64; 128],
 ) -> Longest
-    ghost t: { ℕ }
-    requires most_value { longest_within top bottom steepness elements resistance.now sensitivity.now most ≡ t }
     requires elements_nonzero { (0 < elements) × (elements ≤ element_limits.most) }
     requires held_within { HeldWithin top × HeldWithin bottom × (most ≤ step_limits.most) }
     requires steepness_nonzero { (0 < steepness) × (steepness ≤ stress_limits.most) × Limited elements resistance.now sensitivity.now }
     requires readable { Readable elements excess.now resistance.now }
     requires by_index { (j : ℕ) → j < elements → (get_or low.now j 0 ≤ water_limits.most) × (get_or high.now j 0 ≤ water_limits.most) × (get_or water.old j 0 ≤ water_limits.most) }
     requires above_len { (length above.old ≡ 128) × (length water.old ≡ 128) }
-    ensures value { result ≡ longest_by t (moved_in elements low.now high.now water.old (flows_in top bottom t elements excess.now resistance.now)) }
-    ensures water_after { water.new ≡ water_longest t elements low.now high.now water.old (flows_in top bottom t elements excess.now resistance.now) }
-    ensures above_after { above.new ≡ flows_longest t elements top excess.now resistance.now above.old }
+    ensures value { let t : ℕ = longest_within top bottom steepness elements resistance.now sensitivity.now most in result ≡ longest_by t (moved_in elements low.now high.now water.old (flows_in top bottom t elements excess.now resistance.now)) }
+    ensures water_after { let t : ℕ = longest_within top bottom steepness elements resistance.now sensitivity.now most in water.new ≡ water_longest t elements low.now high.now water.old (flows_in top bottom t elements excess.now resistance.now) }
+    ensures above_after { let t : ℕ = longest_within top bottom steepness elements resistance.now sensitivity.now most in above.new ≡ flows_longest t elements top excess.now resistance.now above.old }
 {
     let t = step_length::longest(
         elements,

@@ -59,10 +59,10 @@ on_layer r call o e p =
     ]) e ∙ ap (λ (x : Outcome). record { answer = x.answer; after = with_events r x.events }) p
 
 -- a refusal on a layer leaves the record
-pub refused-on_layer : (r : Record) (call : Call) (cause : Refusal) → is_layer r ≡ true → outcome (record_site r) (record_state r) call ≡ refused cause →
+pub refused_on_layer : (r : Record) (call : Call) (cause : Refusal) → is_layer r ≡ true → outcome (record_site r) (record_state r) call ≡ refused cause →
     called r call ≡ record { answer = Refused cause; after = r }
 unfolding refused with_events
-refused-on_layer r call cause e p = on_layer r call (refused cause) e p
+refused_on_layer r call cause e p = on_layer r call (refused cause) e p
 
 -- ---- load
 

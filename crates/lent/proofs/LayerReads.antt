@@ -8,18 +8,18 @@ use mathlib.Core.List.{List, []}
 use mathlib.Core.Path.{◌≡◌, refl, sym, ap, ◌∙◌}
 use Rattle.element.specs.Elements.{elements_in, Readable, flow_above}
 use Rattle.laws.specs.Bounds.{lowest_water, highest_water}
-use Rattle.laws.proofs.Bounds.{lowest-most, highest-most}
+use Rattle.laws.proofs.Bounds.{lowest_most, highest_most}
 use Rattle.laws.proofs.Excess as Excess
 use Rattle.laws.proofs.Index.{points-length}
 use Rattle.laws.specs.Most.{most_sensitivity}
 use Rattle.laws.proofs.Steep.{steep_positive, steep_most}
 use Rattle.laws.proofs.VoidRatio.{sensitivity_pos}
-use Rattle.layer.proofs.ReadAt.{water-most}
+use Rattle.layer.proofs.ReadAt.{water_most}
 use Rattle.layer.proofs.StepAt.{flows_in_lem, upward-flows_in, contacts_in, elements_in_lem}
 use Rattle.layer.specs.Held.{excess_at, resistance_at, Stands}
 use Rattle.layer_step.proofs.MovingAt.{Bounded, stays_is}
 use Rattle.layer_step.specs.Moving.{flows_in, new_heights, stays_between}
-use Rattle.lent.proofs.Standing.{site_is, counted, solid, soil, burden_at_lem, on-soil}
+use Rattle.lent.proofs.Standing.{site_is, counted, solid, soil, burden_at_lem, on_soil}
 use Rattle.lent.specs.Worked.{held_in, sensitivities_in, least_water_in, most_water_in, excesses_in, resistances_in}
 use Rattle.numbers.specs.Arrays.{zeros, filled, overlaid}
 use Rattle.numbers.proofs.Division.{ceil_le}
@@ -70,7 +70,7 @@ module _ (r : Record) (is : is_layer r ≡ true) where
   bottom = r.layer.frame.bottom
 
   pub stands_held : Stands (held_in r)
-  stands_held = record { soil = soil r is; on-soil = on-soil r is }
+  stands_held = record { soil = soil r is; on_soil = on_soil r is }
 
   -- ---- what is worked out once
 
@@ -94,12 +94,12 @@ module _ (r : Record) (is : is_layer r ≡ true) where
         get_or-filled (zeros 128) n (λ i. lowest_water (get_or solids i 0) (get_or void (m - 1) 0)) j 0 h,
         get_or-filled (zeros 128) n (λ i. highest_water (get_or solids i 0) (get_or void 0 0)) j 0 h,
       ) (
-        lowest-most (get_or solids j 0) (get_or void (m - 1) 0) (solid r is j h).1 (c.void_high (m - 1) (omega (arith, few))),
-        highest-most (get_or solids j 0) (get_or void 0 0) (solid r is j h).0 (solid r is j h).1 (c.void_high 0 (omega (arith, few))),
+        lowest_most (get_or solids j 0) (get_or void (m - 1) 0) (solid r is j h).1 (c.void_high (m - 1) (omega (arith, few))),
+        highest_most (get_or solids j 0) (get_or void 0 0) (solid r is j h).0 (solid r is j h).1 (c.void_high 0 (omega (arith, few))),
       )
 
   pub waters_most : (j : ℕ) → j < n → get_or water j 0 ≤ water_limits.most
-  waters_most j h = water-most m void stress r.soil.counts.conductivity r.soil.conductivity_void r.soil.conductivity (soil r is) _ _ _ _ (on-soil r is j h)
+  waters_most j h = water_most m void stress r.soil.counts.conductivity r.soil.conductivity_void r.soil.conductivity (soil r is) _ _ _ _ (on_soil r is j h)
 
   pub steepness_range : (0 < curve_steepness first) × (curve_steepness first ≤ stress_limits.most)
   steepness_range = (steep_positive first bounded.falls bounded.two, steep_most first (passed (site_is r is).compressibility))
@@ -125,22 +125,22 @@ module _ (r : Record) (is : is_layer r ≡ true) where
     resists : (j : ℕ) → j < n → Excess.Resists (resistance_at (held_in r) j)
     resists j h =
         Excess.resistance_ranged first second (passed (soil r is).compressibility_is_sound) (passed (soil r is).conductivity_is_sound) (get_or solids j 0) (get_or water j 0)
-        (solid r is j h).0 (solid r is j h).1 (passed (on-soil r is j h).is_on_curve)
+        (solid r is j h).0 (solid r is j h).1 (passed (on_soil r is j h).is_on_curve)
 
     pub readable : Readable n excess resistance
     readable = record {
-      excess-within = λ j h. rw (excess_at_lem j h) (Excess.excess-within first (passed (soil r is).compressibility_is_sound) _ _ (get_or solids j 0) (get_or water j 0)
-          (on-soil r is j h).load_between (on-soil r is j h).burden-most);
+      excess_within = λ j h. rw (excess_at_lem j h) (Excess.excess_within first (passed (soil r is).compressibility_is_sound) _ _ (get_or solids j 0) (get_or water j 0)
+          (on_soil r is j h).load_between (on_soil r is j h).burden_most);
       resistance_positive = λ j h. rw (resistance_at_lem j h) (resists j h).positive;
-      resistance-most = λ j h. rw (resistance_at_lem j h) (resists j h).most;
+      resistance_most = λ j h. rw (resistance_at_lem j h) (resists j h).most;
     }
 
     pub limited : Limited n resistance (sensitivities_in r)
     unfolding layer.sensitivity
     limited = record {
-      resistance-most = readable.resistance-most;
+      resistance_most = readable.resistance_most;
       sensitivity_positive = λ j h. rw (sensitivity_at j h) (sensitivity_pos (get_or solids j 0) (solid r is j h).0);
-      sensitivity-most = λ j h. rw (sensitivity_at j h)
+      sensitivity_most = λ j h. rw (sensitivity_at j h)
           ((ceil_le (solid r is j h).0 void_unit most_sensitivity).1 (let p = (solid r is j h).0 in omega arith));
     }
 
@@ -154,17 +154,17 @@ module _ (r : Record) (is : is_layer r ≡ true) where
         (λ j h. resistance_at_lem j h ∙ rw (first_at n solids j h, first_at n water j h) refl)
         (λ j h. sensitivity_at j h ∙ rw (first_at n solids j h) refl)
 
-    pub longest-is : (most : ℕ) → longest_within top bottom (curve_steepness first) n resistance (sensitivities_in r) most ≡
+    pub longest_is : (most : ℕ) → longest_within top bottom (curve_steepness first) n resistance (sensitivities_in r) most ≡
         greatest most (λ t. not (too_long (record_site r) (record_state r) t))
     unfolding longest_within is_too_long too_long site_steepness record_site
-    longest-is most =
+    longest_is most =
         rw elements_are
         (ap (λ (cs : List Contact). greatest most (λ t. not (any (too_long_at (curve_steepness first) t) cs))) (contacts_in n excess resistance (sensitivities_in r) top bottom))
 
     module _ (t : ℕ) where
-      pub too_long-is : is_too_long top bottom (curve_steepness first) n resistance (sensitivities_in r) t ≡ too_long (record_site r) (record_state r) t
+      pub too_long_is : is_too_long top bottom (curve_steepness first) n resistance (sensitivities_in r) t ≡ too_long (record_site r) (record_state r) t
       unfolding is_too_long too_long site_steepness record_site
-      too_long-is =
+      too_long_is =
           rw elements_are
           (ap (any (too_long_at (curve_steepness first) t)) (contacts_in n excess resistance (sensitivities_in r) top bottom))
 
@@ -176,13 +176,13 @@ module _ (r : Record) (is : is_layer r ≡ true) where
           rw elements_are
           (upward-flows_in n excess resistance [] top bottom t (counted r is).0 ∙ sym (upward-flows_in n excess resistance (sensitivities_in r) top bottom t (counted r is).0))
 
-      pub leaves-is : leaves_curve (record_site r) (record_state r) t ≡ not (stays_between n (least_water_in r) (most_water_in r) water flows)
+      pub leaves_is : leaves_curve (record_site r) (record_state r) t ≡ not (stays_between n (least_water_in r) (most_water_in r) water flows)
       unfolding leaves_curve record_site record_state
-      leaves-is = rw (stays_is n (counted r is).0 top bottom t excess resistance [] water (least_water_in r) (most_water_in r) first solids bounded, flows_are) refl
+      leaves_is = rw (stays_is n (counted r is).0 top bottom t excess resistance [] water (least_water_in r) (most_water_in r) first solids bounded, flows_are) refl
 
-      pub stepped-is : overlaid (new_heights n water flows) water ≡ overlaid (stepped (record_site r) t (record_state r)).water water
+      pub stepped_is : overlaid (new_heights n water flows) water ≡ overlaid (stepped (record_site r) t (record_state r)).water water
       unfolding stepped record_site record_state
-      stepped-is = rw flows_are refl
+      stepped_is = rw flows_are refl
 
       pub above_are : (above : List ℤ) → filled above n (flow_above top t n excess resistance) ≡
           filled above n (λ j. get_or (flows_above top t (read_elements (record_site r) (record_state r))) j (pos 0))

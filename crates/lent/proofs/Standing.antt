@@ -10,8 +10,8 @@ use mathlib.Core.List.{List, map}
 use mathlib.Core.Path.{◌≡◌, sym, ap, ◌∙◌}
 use Rattle.laws.proofs.Every as every
 use Rattle.laws.specs.Every.{Every}
-use Rattle.laws.proofs.Every.{every-tabulate}
-use Rattle.laws.proofs.Excess.{burdens-most}
+use Rattle.laws.proofs.Every.{every_tabulate}
+use Rattle.laws.proofs.Excess.{burdens_most}
 use Rattle.laws.proofs.Lengths.{burdens-length}
 use Rattle.laws.specs.Most.{sharp_burden, most_burden}
 use Rattle.layer.proofs.StepAt.{map-tabulate, on_curve_in}
@@ -48,9 +48,9 @@ module _ (r : Record) (is : is_layer r ≡ true) where
   unfolding is_layer
   site_is = site_facts r (is_true (site_sound r) (both (site_sound r) (state_sound r) (passed is)).0)
 
-  pub state-is : StateFacts r
+  pub state_is : StateFacts r
   unfolding is_layer
-  state-is = state_facts r (is_true (state_sound r) (both (site_sound r) (state_sound r) (passed is)).1)
+  state_is = state_facts r (is_true (state_sound r) (both (site_sound r) (state_sound r) (passed is)).1)
 
   abbrev n : ℕ
   n = r.layer.frame.elements
@@ -65,20 +65,20 @@ module _ (r : Record) (is : is_layer r ≡ true) where
   curve = compressibility_points r.soil
 
   pub counted : (0 < n) × (n ≤ element_limits.most)
-  counted = (site_is.header.elements-kept.least, site_is.header.elements-kept.most)
+  counted = (site_is.header.elements_kept.least, site_is.header.elements_kept.most)
 
   pub weighted : (gravity_limits.least ≤ r.layer.frame.gravity) × (r.layer.frame.gravity ≤ gravity_limits.most)
-  weighted = (site_is.header.gravity-kept.least, site_is.header.gravity-kept.most)
+  weighted = (site_is.header.gravity_kept.least, site_is.header.gravity_kept.most)
 
   pub solid : (j : ℕ) → j < n → (0 < get_or r.layer.solids j 0) × (get_or r.layer.solids j 0 ≤ solids_limits.most)
-  solid j h = (omega (arith, site_is.sizes.solids-least j h), site_is.sizes.solids-most j h)
+  solid j h = (omega (arith, site_is.sizes.solids_least j h), site_is.sizes.solids_most j h)
 
   pub soil : SoilSound m r.soil.compressibility_void r.soil.compressibility_stress k r.soil.conductivity_void r.soil.conductivity
   soil = record {
-    compressibility_few = site_is.header.compressibility-kept.least;
-    compressibility_many = site_is.header.compressibility-kept.most;
-    conductivity_few = site_is.header.conductivity-kept.least;
-    conductivity_many = site_is.header.conductivity-kept.most;
+    compressibility_few = site_is.header.compressibility_kept.least;
+    compressibility_many = site_is.header.compressibility_kept.most;
+    conductivity_few = site_is.header.conductivity_kept.least;
+    conductivity_many = site_is.header.conductivity_kept.most;
     compressibility_is_sound = site_is.compressibility;
     conductivity_is_sound = site_is.conductivity;
   }
@@ -86,7 +86,7 @@ module _ (r : Record) (is : is_layer r ≡ true) where
   -- each element is on the curve
   pub stands : (j : ℕ) → j < n → is_on (effective_stress (skeleton_of curve) (get_or r.layer.solids j 0) (get_or r.layer.water j 0)) ≡ true
   unfolding record_site record_state
-  stands = each_stands (skeleton_of curve) n r.layer.solids r.layer.water state-is.is_on_curve
+  stands = each_stands (skeleton_of curve) n r.layer.solids r.layer.water state_is.is_on_curve
 
   -- the weights above
   abbrev burden : List ℕ
@@ -96,22 +96,22 @@ module _ (r : Record) (is : is_layer r ≡ true) where
   unfolding burden_at
   burden_at_lem j h = get_or-filled (zeros 128) n (burden_at r.layer.frame.gravity n r.layer.solids) j 0 h
 
-  pub burden-most : (j : ℕ) → j < n → get_or burden j 0 ≤ most_burden
+  pub burden_most : (j : ℕ) → j < n → get_or burden j 0 ≤ most_burden
   unfolding first_places
-  burden-most j h =
+  burden_most j h =
       let Ss = first_places n r.layer.solids in
       let Bs = burdens r.layer.frame.gravity Ss in
       let most : Every (λ B. B ≤ sharp_burden) Bs =
-      burdens-most r.layer.frame.gravity weighted.1 Ss (every-tabulate (λ S. S ≤ solids_limits.most) n (λ i. get_or r.layer.solids i 0) (λ i l. (solid i l).1))
+      burdens_most r.layer.frame.gravity weighted.1 Ss (every_tabulate (λ S. S ≤ solids_limits.most) n (λ i. get_or r.layer.solids i 0) (λ i l. (solid i l).1))
       (rw (first_length n r.layer.solids) counted.1) in
       rw (burden_at_lem j h) (le_trans (every.every_at (λ B. B ≤ sharp_burden) Bs j 0 most (rw (burdens-length r.layer.frame.gravity Ss, first_length n r.layer.solids) h)) (lit≤ tt))
 
-  pub on-soil : (j : ℕ) → j < n →
+  pub on_soil : (j : ℕ) → j < n →
       OnSoil m r.soil.compressibility_void r.soil.compressibility_stress r.layer.progress.load.0 (get_or burden j 0) (get_or r.layer.solids j 0) (get_or r.layer.water j 0)
-  on-soil j h = record {
-    load_between = state-is.load_between;
-    burden-most = burden-most j h;
+  on_soil j h = record {
+    load_between = state_is.load_between;
+    burden_most = burden_most j h;
     solids_positive = (solid j h).0;
-    solids-most = (solid j h).1;
+    solids_most = (solid j h).1;
     is_on_curve = stands j h;
   }

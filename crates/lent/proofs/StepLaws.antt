@@ -8,12 +8,12 @@ use mathlib.Core.List.{List, [], ◌∷◌}
 use mathlib.Core.Option.{Option, none, some}
 use native.Mathlib.Omega.{arith}
 use mathlib.Core.Path.{◌≡◌, refl, sym, ap, subst, ◌∙◌}
-use Rattle.lent.proofs.CallLaws.{on_layer, refused-on_layer}
+use Rattle.lent.proofs.CallLaws.{on_layer, refused_on_layer}
 use Rattle.lent.specs.Progress.{refused_with}
 use Rattle.lent.specs.Burdens.{burdens_in}
 use Rattle.lent.proofs.LayerReads.{steepness_range}
-use Rattle.lent.proofs.Standing.{site_is, state-is, counted, weighted, solid, on-soil}
-use Rattle.laws.proofs.Every.{every-tabulate}
+use Rattle.lent.proofs.Standing.{site_is, state_is, counted, weighted, solid, on_soil}
+use Rattle.laws.proofs.Every.{every_tabulate}
 use Rattle.laws.proofs.Excess.{excesses-within}
 use Rattle.laws.proofs.Outflow.{OuterWithin, outflow_within}
 use Rattle.layer.specs.Soil.{OnSoil}
@@ -82,7 +82,7 @@ step_refused r t cause is e = go (step_refusal (record_site r) (record_state r) 
   where
     go : (found : Option Refusal) → step_refusal (record_site r) (record_state r) t ≡ found → refused_with cause r ≡ called r (Step t)
     go (some other) p =
-        let answers = refused-on_layer r (Step t) other is (by_refusal (record_site r) (record_state r) t (some other) p) in
+        let answers = refused_on_layer r (Step t) other is (by_refusal (record_site r) (record_state r) t (some other) p) in
         let same : other ≡ cause = cc (sym (ap (λ (a : Answered). a.answer) answers) ∙ e) in
         sym (answers ∙ ap (λ (c : Refusal). refused_with c r) same)
     go none p =
@@ -92,9 +92,9 @@ step_refused r t cause is e = go (step_refusal (record_site r) (record_state r) 
 
 -- ---- a layer
 
-pub on-soil_as : (r : Record) (is : is_layer r ≡ true) {b : List ℕ} → b ≡ burdens_in r.layer.frame r.layer.solids → (j : ℕ) → j < r.layer.frame.elements →
+pub on_soil_as : (r : Record) (is : is_layer r ≡ true) {b : List ℕ} → b ≡ burdens_in r.layer.frame r.layer.solids → (j : ℕ) → j < r.layer.frame.elements →
     OnSoil r.soil.counts.compressibility r.soil.compressibility_void r.soil.compressibility_stress r.layer.progress.load.0 (get_or b j 0) (get_or r.layer.solids j 0) (get_or r.layer.water j 0)
-on-soil_as r is e j h = rw e (on-soil r is j h)
+on_soil_as r is e j h = rw e (on_soil r is j h)
 
 -- a bound holds for an equal number
 pub within_as : {a b : ℤ} {n : ℕ} → a ≡ b → Within b n → Within a n
@@ -110,9 +110,9 @@ outer_flows r is t h short =
     let n = r.layer.frame.elements in
     outflow_within (record_site r) (record_state r) t h
     (steepness_range r is).0
-    (every-tabulate (λ S. 0 < S) n (λ i. get_or r.layer.solids i 0) (λ i l. (solid r is i l).0))
-    (site_is r is).top-held (site_is r is).bottom-held
-    (excesses-within (record_site r) (passed (site_is r is).compressibility) (record_state r) (state-is r is).load_between (weighted r is).1
-    (every-tabulate (λ S. S ≤ solids_limits.most) n (λ i. get_or r.layer.solids i 0) (λ i l. (solid r is i l).1))
+    (every_tabulate (λ S. 0 < S) n (λ i. get_or r.layer.solids i 0) (λ i l. (solid r is i l).0))
+    (site_is r is).top_held (site_is r is).bottom_held
+    (excesses-within (record_site r) (passed (site_is r is).compressibility) (record_state r) (state_is r is).load_between (weighted r is).1
+    (every_tabulate (λ S. S ≤ solids_limits.most) n (λ i. get_or r.layer.solids i 0) (λ i l. (solid r is i l).1))
     (rw (first_length n r.layer.solids) (counted r is).1))
     (subst (λ (b : Bool). T (not b)) (sym short) tt)

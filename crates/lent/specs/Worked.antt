@@ -31,8 +31,8 @@ most_water_in r =
 
 -- these are what is worked out for it
 pub record WorkedOut (r : Record) (burden sensitivity low high : List ℕ) (steepness : ℕ) : Type 0 where
-  pub burden-is : burden ≡ burdens_in r.layer.frame r.layer.solids
-  pub sensitivity-is : sensitivity ≡ sensitivities_in r
+  pub burden_is : burden ≡ burdens_in r.layer.frame r.layer.solids
+  pub sensitivity_is : sensitivity ≡ sensitivities_in r
   pub low_is : low ≡ least_water_in r
   pub high_is : high ≡ most_water_in r
   pub steepness_is : steepness ≡ curve_steepness (compressibility_points r.soil)

@@ -18,7 +18,7 @@ module _ {r : Record} {frame : Frame} {progress : Progress} {steepness : ℕ} {s
     {resistance water : List ℕ} (read : ReadAs r frame progress steepness sensitivity low high excess resistance water) where
   -- it is the record itself
   pub lent_is : r ≡ lent_of r frame progress water
-  lent_is i = lent_of r (read.frame_is i) (read.progress_is i) (read.water-is i)
+  lent_is i = lent_of r (read.frame_is i) (read.progress_is i) (read.water_is i)
 
   pub lent_read : ReadAs (lent_of r frame progress water) frame progress steepness sensitivity low high excess resistance water
   lent_read = subst (λ (x : Record). ReadAs x frame progress steepness sensitivity low high excess resistance water) lent_is read

@@ -14,13 +14,13 @@ pub record ReadAs (r : Record) (frame : Frame) (progress : Progress) (steepness 
   pub is : is_layer r ≡ true
   pub frame_is : r.layer.frame ≡ frame
   pub progress_is : r.layer.progress ≡ progress
-  pub water-is : r.layer.water ≡ water
+  pub water_is : r.layer.water ≡ water
   pub steepness_is : steepness ≡ curve_steepness (compressibility_points r.soil)
-  pub sensitivity-is : sensitivity ≡ sensitivities_in r
+  pub sensitivity_is : sensitivity ≡ sensitivities_in r
   pub low_is : low ≡ least_water_in r
   pub high_is : high ≡ most_water_in r
-  pub excess-is : excess ≡ excesses_in r (replicate 128 (pos 0))
-  pub resistance-is : resistance ≡ resistances_in r (zeros 128)
+  pub excess_is : excess ≡ excesses_in r (replicate 128 (pos 0))
+  pub resistance_is : resistance ≡ resistances_in r (zeros 128)
 
 -- some record is read so
 pub record SomeRead (frame : Frame) (progress : Progress) (steepness : ℕ) (sensitivity low high : List ℕ) (excess : List ℤ)

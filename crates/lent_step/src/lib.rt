@@ -74,12 +74,10 @@ pub fn step_lent<'a>(
     table_load: &'a [u64; 64],
     t: u64,
 ) -> Stepped
-    ghost r: { Record }
-    requires table_load_value { record_of (soil_of counts void.now stress.now conductivity_void.now conductivity.now) (layer_of frame progress solids.now water.old table_time.now table_load.now) ≡ r }
-    requires r_value { is_layer r ≡ true }
+    requires r_value { let r : Record = record_of (soil_of counts void.now stress.now conductivity_void.now conductivity.now) (layer_of frame progress solids.now water.old table_time.now table_load.now) in is_layer r ≡ true }
     requires t_value { (within step_limits t ≡ true) × (within clock_limits (progress.clock.0 + t) ≡ true) }
     requires water_len { length water.old ≡ 128 }
-    ensures { step_answered r result water.new ≡ called r (Step t) }
+    ensures { let r : Record = record_of (soil_of counts void.now stress.now conductivity_void.now conductivity.now) (layer_of frame progress solids.now water.old table_time.now table_load.now) in step_answered r result water.new ≡ called r (Step t) }
 {
     let mut sensitivity = [0u64; 128];
     let mut low = [0u64; 128];

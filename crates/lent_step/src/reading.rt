@@ -23,14 +23,12 @@ pub fn read_layer<'a>(
     excess: &mut [i64; 128],
     resistance: &mut [u64; 128],
 )
-    ghost h: { Held }
-    requires water_value { held_of (soil_of counts void.now stress.now conductivity_void.now conductivity.now) frame.elements load.0 (burdens_in frame solids.now) solids.now water.now ≡ h }
-    requires stands { Stands h }
+    requires stands { let h : Held = held_of (soil_of counts void.now stress.now conductivity_void.now conductivity.now) frame.elements load.0 (burdens_in frame solids.now) solids.now water.now in Stands h }
     requires elements_le_most { frame.elements ≤ element_limits.most }
     requires least_le_gravity { (gravity_limits.least ≤ frame.gravity) × (frame.gravity ≤ gravity_limits.most) }
     requires excess_len { (length excess.old ≡ 128) × (length resistance.old ≡ 128) }
-    ensures excess_after { excess.new ≡ filled excess.old frame.elements (excess_at h) }
-    ensures resistance_after { resistance.new ≡ filled resistance.old frame.elements (resistance_at h) }
+    ensures excess_after { let h : Held = held_of (soil_of counts void.now stress.now conductivity_void.now conductivity.now) frame.elements load.0 (burdens_in frame solids.now) solids.now water.now in excess.new ≡ filled excess.old frame.elements (excess_at h) }
+    ensures resistance_after { let h : Held = held_of (soil_of counts void.now stress.now conductivity_void.now conductivity.now) frame.elements load.0 (burdens_in frame solids.now) solids.now water.now in resistance.new ≡ filled resistance.old frame.elements (resistance_at h) }
 {
     let elements = frame.elements;
     let mut burden = [0u64; 128];

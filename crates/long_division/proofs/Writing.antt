@@ -47,9 +47,9 @@ module _ (r : Record) (t : ℕ) (out : List ℕ) where
   abbrev output_by : Option Refusal → List ℕ
   output_by o = elim o [ some cause ↦ refused_line (refusal_number cause) | none ↦ bytes_of (working_words r t) ]
 
-  working-is : (o : Option Refusal) → cause? ≡ o → (working r t out ≡ working_by o) × (worked_output r t ≡ output_by o)
+  working_is : (o : Option Refusal) → cause? ≡ o → (working r t out ≡ working_by o) × (worked_output r t ≡ output_by o)
   unfolding working worked_output
-  working-is o e = (ap working_by e, ap output_by e)
+  working_is o e = (ap working_by e, ap output_by e)
 
   -- how many words an answer tells, and which cause
   abbrev told : Worked → ℕ
@@ -70,10 +70,10 @@ module _ (r : Record) (t : ℕ) (out : List ℕ) where
     where
       go : (o : Option Refusal) → cause? ≡ o → Written (working_words r t) out last n × (worked_output r t ≡ bytes_of (working_words r t))
       go none e =
-          let (w, output) = working-is none e in
+          let (w, output) = working_is none e in
           ((last-is ∙ ap (λ (x : Working). x.words) w, ap told (is ∙ ap (λ (x : Working). x.answer) w)), output)
       go (some cause) e =
-          let (w, output) = working-is (some cause) e in
+          let (w, output) = working_is (some cause) e in
           let differ : ◌≡◌ {A = ℕ} 0 1 = ap kind (is ∙ ap (λ (x : Working). x.answer) w) in
           absurd (omega arith)
 
@@ -82,19 +82,19 @@ module _ (r : Record) (t : ℕ) (out : List ℕ) where
     where
       go : (o : Option Refusal) → cause? ≡ o → worked_output r t ≡ refused_line (refusal_number cause)
       go none e =
-          let (w, output) = working-is none e in
+          let (w, output) = working_is none e in
           let differ : ◌≡◌ {A = ℕ} 1 0 = ap kind (is ∙ ap (λ (x : Working). x.answer) w) in
           absurd (omega arith)
       go (some other) e =
-          let (w, output) = working-is (some other) e in
+          let (w, output) = working_is (some other) e in
           let same : refusal_number cause ≡ refusal_number other = ap number (is ∙ ap (λ (x : Working). x.answer) w) in
           output ∙ ap refused_line (sym same)
 
 -- the bytes of the words in an array's front
-pub bytes-written : (words line entry all out last : List ℕ) (n size : ℕ) → Written words entry all n → line ≡ bytes_of words →
+pub bytes_written : (words line entry all out last : List ℕ) (n size : ℕ) → Written words entry all n → line ≡ bytes_of words →
     last ≡ overlaid (bytes_of (take n all)) out → size ≡ 8 * n → Written line out last size
 unfolding overlaid
-bytes-written words line entry all out last n size all-is line-is last-is size_is =
+bytes_written words line entry all out last n size all-is line-is last-is size_is =
     let own : take n all ≡ words = rw (all-is.0, all-is.1) (take_at words _ (length words) refl) in
     rw (line-is, ← own) (last-is, size_is ∙ ap (λ (k : ℕ). 8 * k) (all-is.1 ∙ ap length (sym own)) ∙ sym (length-bytes_of (take n all)))
 

@@ -38,21 +38,21 @@ module _ {b : ℕ} (h : 0 < b) where
       below = div-lt_iff_lt-mul h
 
   -- the ceil times the divisor reaches the dividend
-  pub ceil-reaches : (a : ℕ) → a ≤ ceil a b * b
-  ceil-reaches a = (ceil_le a (ceil a b)).0 (le_refl (ceil a b))
+  pub ceil_reaches : (a : ℕ) → a ≤ ceil a b * b
+  ceil_reaches a = (ceil_le a (ceil a b)).0 (le_refl (ceil a b))
 
   -- and passes it by less than the divisor
-  pub ceil-below : (a : ℕ) → ceil a b * b < a + b
+  pub ceil_below : (a : ℕ) → ceil a b * b < a + b
   unfolding ceil
-  ceil-below a = omega (arith, div-mul-le_self (a + (b - 1)) b)
+  ceil_below a = omega (arith, div-mul-le_self (a + (b - 1)) b)
 
   -- the ceil is monotone in the dividend
   pub ceil_mono : (a c : ℕ) → a ≤ c → ceil a b ≤ ceil c b
-  ceil_mono a c k = (ceil_le a (ceil c b)).1 (le_trans k (ceil-reaches c))
+  ceil_mono a c k = (ceil_le a (ceil c b)).1 (le_trans k (ceil_reaches c))
 
   -- the ceil of a positive number is positive
   pub ceil_pos : (a : ℕ) → 0 < a → 0 < ceil a b
-  ceil_pos a k = positive (ceil a b) (ceil-reaches a)
+  ceil_pos a k = positive (ceil a b) (ceil_reaches a)
     where
       positive : (q : ℕ) → a ≤ q * b → 0 < q
       positive zero r = omega arith

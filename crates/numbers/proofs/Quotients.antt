@@ -4,31 +4,31 @@ use lib.IntN.{ℤ, pos, negsuc, nat_abs}
 use lib.Signed.{quot_z, rem_z, ◌<ℤ◌}
 use mathlib.Core.Path.{◌≡◌, refl, ap}
 use Rattle.numbers.specs.Rounding.{floor, ceil, cut, remainder}
-use Rattle.numbers.proofs.Division.{ceil-reaches, ceil-below, cut-remainder, remainder_nonneg, remainder_nonpos}
+use Rattle.numbers.proofs.Division.{ceil_reaches, ceil_below, cut-remainder, remainder_nonneg, remainder_nonpos}
 use Rattle.numbers.proofs.Signed.{signed}
 use Rattle.numbers.specs.Quotients.{Divides, Floored, Ceiled, Cut, Left}
 
 -- the law, of every number and every positive divisor
-pub cut-divides : (a : ℤ) (b : ℕ) → 0 < b → Divides a b (cut a b) (remainder a b)
-cut-divides a b h =
+pub cut_divides : (a : ℤ) (b : ℕ) → 0 < b → Divides a b (cut a b) (remainder a b)
+cut_divides a b h =
     let (remains, smaller) = cut-remainder h a in
     record { remains = remains; smaller = smaller; not_negative = remainder_nonneg a b; not_positive = remainder_nonpos a b }
 
 pub floored : (a b : ℕ) → 0 < b → Floored a b (floor a b)
-floored a b h = record { quotient = refl; divides = cut-divides (pos a) b h }
+floored a b h = record { quotient = refl; divides = cut_divides (pos a) b h }
 
 -- in natural numbers
 pub floored_remains : {a b q : ℕ} → Floored a b q → a ≡ q * b + a % b
 floored_remains f = ap nat_abs f.divides.remains
 
 pub ceiled : (a b : ℕ) → 0 < b → Ceiled a b (ceil a b)
-ceiled a b h = record { quotient = refl; reaches = ceil-reaches h a; below = ceil-below h a }
+ceiled a b h = record { quotient = refl; reaches = ceil_reaches h a; below = ceil_below h a }
 
 -- the machine's quotient by a positive number is the cut, and its remainder what the cut leaves
 pub is_cut : (a b : ℤ) → pos 0 <ℤ b → Cut a (nat_abs b) (quot_z a b)
-is_cut a (pos n) h = record { quotient = refl; divides = cut-divides a n (omega (signed, h)) }
+is_cut a (pos n) h = record { quotient = refl; divides = cut_divides a n (omega (signed, h)) }
 is_cut a (negsuc n) h = absurd h.lt
 
 pub is_left : (a b : ℤ) → pos 0 <ℤ b → Left a (nat_abs b) (rem_z a b)
-is_left a (pos n) h = record { remainder_is = refl; divides = cut-divides a n (omega (signed, h)) }
+is_left a (pos n) h = record { remainder_is = refl; divides = cut_divides a n (omega (signed, h)) }
 is_left a (negsuc n) h = absurd h.lt

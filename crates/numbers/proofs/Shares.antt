@@ -5,7 +5,7 @@ use native.Mathlib.Omega.{arith}
 use mathlib.Core.Path.{◌≡◌}
 use Rattle.numbers.specs.Rounding.{floor, ceil}
 use Rattle.numbers.specs.Interpolation.{share}
-use Rattle.numbers.proofs.Division.{floor_mono, ceil-reaches}
+use Rattle.numbers.proofs.Division.{floor_mono, ceil_reaches}
 
 -- the share goes from 0 to the whole rise, never falls, and rises by at most the ceil of rise by whole for each unit
 pub record Interpolates (rise whole : ℕ) : Type 0 where
@@ -34,4 +34,4 @@ interpolates rise whole h =
     slope part d =
         rw (← add-mul-div_right (rise * part) (ceil rise whole * d) h)
         (floor_mono h (rise * (part + d)) (rise * part + ceil rise whole * d * whole)
-        (omega (arith, mul-le-mul_right d (ceil-reaches h rise))))
+        (omega (arith, mul-le-mul_right d (ceil_reaches h rise))))

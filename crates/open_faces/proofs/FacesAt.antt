@@ -86,7 +86,7 @@ module _ (n : ℕ) (top bottom : Face) (excess : List ℤ) (resistance : List �
 pub record Ranged (face : OpenFace) : Type 0 where
   pub difference_within : Within face.difference most_difference
   pub resistance_positive : 0 < face.resistance
-  pub resistance-most : face.resistance ≤ most_face_resistance
+  pub resistance_most : face.resistance ≤ most_face_resistance
 
 outer_ranged : (face : Face) (e : Element) → 0 < face_number face → HeldWithin face → Within e.excess most_excess → 0 < e.resistance →
     e.resistance ≤ most_resistance → Ranged (get_or (outer_faces face e) 0 no_face)
@@ -95,31 +95,31 @@ outer_ranged Closed e some held excess positive most = absurd (not-suc-le-zero s
 outer_ranged (Drained holds) e some held excess positive most = record {
   difference_within = within_le (within-sub excess held) (lit≤ tt);
   resistance_positive = positive;
-  resistance-most = omega arith;
+  resistance_most = omega arith;
 }
 
-module _ (n : ℕ) (top bottom : Face) (excess : List ℤ) (resistance : List ℕ) (some : 0 < n) (top-held : HeldWithin top) (bottom-held : HeldWithin bottom)
+module _ (n : ℕ) (top bottom : Face) (excess : List ℤ) (resistance : List ℕ) (some : 0 < n) (top_held : HeldWithin top) (bottom_held : HeldWithin bottom)
     (readable : Readable n excess resistance) where
   outer_at : (face : Face) → HeldWithin face → 0 < face_number face → (j : ℕ) → j < n → Ranged (get_or (outer_faces face (element_in excess resistance [] j)) 0 no_face)
   outer_at face held drained j h =
-      outer_ranged face (element_in excess resistance [] j) drained held (readable.excess-within j h) (readable.resistance_positive j h) (readable.resistance-most j h)
+      outer_ranged face (element_in excess resistance [] j) drained held (readable.excess_within j h) (readable.resistance_positive j h) (readable.resistance_most j h)
 
   inner_ranged : (j : ℕ) → j + 1 < n → Ranged (inner_face (element_in excess resistance [] j) (element_in excess resistance [] (j + 1)))
   unfolding inner_face inner_resistance
   inner_ranged j h =
       let p = readable.resistance_positive j (omega arith) in
-      let here = readable.resistance-most j (omega arith) in
-      let next = readable.resistance-most (j + 1) h in
+      let here = readable.resistance_most j (omega arith) in
+      let next = readable.resistance_most (j + 1) h in
       record {
-        difference_within = within_le (within-sub (readable.excess-within j (omega arith)) (readable.excess-within (j + 1) h)) (lit≤ tt);
+        difference_within = within_le (within-sub (readable.excess_within j (omega arith)) (readable.excess_within (j + 1) h)) (lit≤ tt);
         resistance_positive = omega arith;
-        resistance-most = omega arith;
+        resistance_most = omega arith;
       }
 
   pub face_ranged : (k : ℕ) → k < face_count n top bottom → Ranged (face_in n top bottom excess resistance k)
   face_ranged k h =
       by_test (ltb k (face_number bottom)) (λ _. Ranged (face_in n top bottom excess resistance k))
-      (λ s. let first = ltb→lt k (face_number bottom) s in rw (face_bottom n top bottom excess resistance some k first) (outer_at bottom bottom-held (omega arith) 0 some))
+      (λ s. let first = ltb→lt k (face_number bottom) s in rw (face_bottom n top bottom excess resistance some k first) (outer_at bottom bottom_held (omega arith) 0 some))
       (λ s.
       let past = nltb→le k (face_number bottom) s in
       let j = k - face_number bottom in
@@ -130,4 +130,4 @@ module _ (n : ℕ) (top bottom : Face) (excess : List ℤ) (resistance : List �
       let last = nltb→le (j + 1) n u in
       let one = face_most top in
       let is : j + 1 ≡ n = omega arith in
-      rw (face_top n top bottom excess resistance some k j place is) (outer_at top top-held (omega arith) j (omega arith))))
+      rw (face_top n top bottom excess resistance some k j place is) (outer_at top top_held (omega arith) j (omega arith))))

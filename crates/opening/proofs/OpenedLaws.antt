@@ -5,7 +5,7 @@ use mathlib.Core.List.{List}
 use mathlib.Core.Option.{Option, none, some}
 use mathlib.Core.Path.{◌≡◌, refl, sym, ap, ◌∙◌}
 use Rattle.acceptance.specs.Accepting.{water_started, accepted_burden}
-use Rattle.acceptance.proofs.AcceptingLaws.{accepted_none, cause_accepts, header-within, unstarted_accepts, start_accepts}
+use Rattle.acceptance.proofs.AcceptingLaws.{accepted_none, cause_accepts, header_within, unstarted_accepts, start_accepts}
 use Rattle.description.specs.Lent.{description_of}
 use Rattle.job.specs.Framing.{framing}
 use Rattle.job.proofs.FramingLaws.{framed_header, framed_kept, framed_rest, unframed_first}
@@ -47,14 +47,14 @@ module _ (job : List ℕ) where
         Pairs (left_description job) solids water compressibility_void compressibility_stress conductivity_void conductivity table_time table_load
     unfolding left_description
     unframed_pairs blank = rw (e, left_description) record {
-      solids-held = blank.solids_blank;
-      water-held = blank.water_blank;
-      compressibility_stress-held = blank.compressibility_stress_blank;
-      compressibility_void-held = blank.compressibility_void_blank;
-      conductivity_void-held = blank.conductivity_void_blank;
-      conductivity-held = blank.conductivity_blank;
-      table_time-held = blank.table_time_blank;
-      table_load-held = blank.table_load_blank;
+      solids_held = blank.solids_blank;
+      water_held = blank.water_blank;
+      compressibility_stress_held = blank.compressibility_stress_blank;
+      compressibility_void_held = blank.compressibility_void_blank;
+      conductivity_void_held = blank.conductivity_void_blank;
+      conductivity_held = blank.conductivity_blank;
+      table_time_held = blank.table_time_blank;
+      table_load_held = blank.table_load_blank;
     }
 
     pub unframed_burden : (before : List ℕ) → left_burden job before ≡ before
@@ -79,14 +79,14 @@ module _ (job : List ℕ) where
         started ≡ accepted_water d →
         Pairs (left_description job) solids started compressibility_void compressibility_stress conductivity_void conductivity table_time table_load
     framed_pairs read is = rw framed_left record {
-      solids-held = read.solids-held;
-      water-held = is;
-      compressibility_stress-held = read.compressibility_stress-held;
-      compressibility_void-held = read.compressibility_void-held;
-      conductivity_void-held = read.conductivity_void-held;
-      conductivity-held = read.conductivity-held;
-      table_time-held = read.table_time-held;
-      table_load-held = read.table_load-held;
+      solids_held = read.solids_held;
+      water_held = is;
+      compressibility_stress_held = read.compressibility_stress_held;
+      compressibility_void_held = read.compressibility_void_held;
+      conductivity_void_held = read.conductivity_void_held;
+      conductivity_held = read.conductivity_held;
+      table_time_held = read.table_time_held;
+      table_load_held = read.table_load_held;
     }
 
     pub framed_burden : (before : List ℕ) → left_burden job before ≡ accepted_burden d before
@@ -111,8 +111,8 @@ module _ (job : List ℕ) where
 
   -- none of the causes 1 to 4
   module _ (header : Header) (e : framing job ≡ framed.Sound header) where
-    after-header : first_cause (layer_causes (d job)) ≡ first_cause (described_causes (d job))
-    after-header = header-within (d job) (framed_kept job header e)
+    after_header : first_cause (layer_causes (d job)) ≡ first_cause (described_causes (d job))
+    after_header = header_within (d job) (framed_kept job header e)
 
     opened_as : {answer : Acceptance} → answer ≡ accepted (d job) → opened_job job ≡ opened_by header answer
     opened_as is = framed_opened job header e ∙ ap (opened_by header) (sym is)
@@ -121,16 +121,16 @@ module _ (job : List ℕ) where
     by_cause : (cause : Refusal) → first_cause (described_causes (d job)) ≡ some cause → opening job ≡ opening_by (left_description job) (opened_job job)
     unfolding opening_by opened_by opening
     by_cause cause f =
-        by_parts refl (opened_as (cause_accepts (d job) cause (after-header ∙ f)).answers) (rw (framed_rest job header e, f, opening))
+        by_parts refl (opened_as (cause_accepts (d job) cause (after_header ∙ f)).answers) (rw (framed_rest job header e, f, opening))
 
     -- none of these: 9 or 20, or a layer
     by_start : first_cause (described_causes (d job)) ≡ none → (start : Started) → started (d job) ≡ start →
         opening job ≡ opening_by (left_description job) (opened_job job)
     unfolding opening_by opened_by opening opened_record water_started
     by_start f (not_started cause) is =
-        by_parts refl (opened_as (unstarted_accepts (d job) (after-header ∙ f) cause is).answers) (rw (framed_rest job header e, f, is, opening))
+        by_parts refl (opened_as (unstarted_accepts (d job) (after_header ∙ f) cause is).answers) (rw (framed_rest job header e, f, is, opening))
     by_start f (started_with water) is =
-        let a = start_accepts (d job) (after-header ∙ f) water is in
+        let a = start_accepts (d job) (after_header ∙ f) water is in
         by_parts (framed_left job header e) (opened_as a.answers)
         (rw (framed_rest job header e, f, is, opening, framed_header job header e, ← a.water_left))
 
@@ -195,11 +195,11 @@ module _ (job : List ℕ) {header : Header} {frame : Frame} {progress : Progress
     opened_record_lem =
         ap (λ (a : Answered). a.after) left_by ∙
         λ i.
-        record_of (soil_of (counts_of header) (sym held.compressibility_void-held i) (sym held.compressibility_stress-held i) (sym held.conductivity_void-held i) (sym held.conductivity-held i))
-        (layer_of frame progress (sym held.solids-held i) (sym held.water-held i) (sym held.table_time-held i) (sym held.table_load-held i))
+        record_of (soil_of (counts_of header) (sym held.compressibility_void_held i) (sym held.compressibility_stress_held i) (sym held.conductivity_void_held i) (sym held.conductivity_held i))
+        (layer_of frame progress (sym held.solids_held i) (sym held.water_held i) (sym held.table_time_held i) (sym held.table_load_held i))
 
     pub opened_burden : (before : List ℕ) → left_burden job before ≡ filled before header.elements (burden_at header.gravity header.elements solids)
     unfolding accepted_burden
     opened_burden before =
-        let solids-are : solids ≡ (d job).solids = held.solids-held ∙ ap (λ (left : Description). left.solids) (framed_left job header parts.0) in
+        let solids-are : solids ≡ (d job).solids = held.solids_held ∙ ap (λ (left : Description). left.solids) (framed_left job header parts.0) in
         framed_burden job header parts.0 before ∙ rw (accepted_none (d job) frame progress parts.1, accepted_burden, opened_header, solids-are)

@@ -6,7 +6,7 @@ use mathlib.Core.List.{List}
 use mathlib.Core.Path.{◌≡◌, ◌∙◌}
 use Rattle.description.specs.Lent.{description_of}
 use Rattle.job.specs.Pairs.{Pairs}
-use Rattle.laws.proofs.SoundHeader.{kept-header}
+use Rattle.laws.proofs.SoundHeader.{kept_header}
 use Rattle.numbers.specs.Arrays.{zeros}
 use Rattle.numbers.specs.Bytes.{field}
 use Rattle.numbers.proofs.Filled.{length-filled, length-zeros}
@@ -20,19 +20,19 @@ pub lent_described : (d : Description) {header : Header}
     description_of header compressibility_void compressibility_stress conductivity_void conductivity solids water table_time table_load ≡ d
 lent_described d e p = λ i. record {
   header = e i;
-  solids = p.solids-held i;
-  water = p.water-held i;
-  compressibility_void = p.compressibility_void-held i;
-  compressibility_stress = p.compressibility_stress-held i;
-  conductivity_void = p.conductivity_void-held i;
-  conductivity = p.conductivity-held i;
-  table_time = p.table_time-held i;
-  table_load = p.table_load-held i;
+  solids = p.solids_held i;
+  water = p.water_held i;
+  compressibility_void = p.compressibility_void_held i;
+  compressibility_stress = p.compressibility_stress_held i;
+  conductivity_void = p.conductivity_void_held i;
+  conductivity = p.conductivity_held i;
+  table_time = p.table_time_held i;
+  table_load = p.table_load_held i;
 }
 
 -- the water of a job whose header is sound is an array's
 pub water_long : (job : List ℕ) → header_sound (described job).header ≡ true → length (described job).water ≡ 128
 unfolding described seconds firsts
 water_long job kept =
-    let few = (kept-header (described job).header kept).elements-kept.most in
+    let few = (kept_header (described job).header kept).elements_kept.most in
     length-filled (zeros 128) (field 1 7 job) _ (rw (length-zeros 128) few) ∙ length-zeros 128

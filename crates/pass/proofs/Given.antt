@@ -62,10 +62,10 @@ module _ (site : Site) (end budget steps : ℕ) (s : State) where
       one_less = omega arith
 
       -- a pass that stops sets the table's load
-      pub given-stop : (stop : Stop) → turn site (loaded site s) (longest_step site end (loaded site s)) ≡ stops stop →
+      pub given_stop : (stop : Stop) → turn site (loaded site s) (longest_step site end (loaded site s)) ≡ stops stop →
           given site end budget steps s ≡ record { stop = stop; steps = steps; after = loaded site s }
       unfolding running unless_at_end step_count after_events after_event
-      given-stop stop found =
+      given_stop stop found =
           by_outcome (record { stop = stop; events = load_set (load_at site.load_table s.clock) ∷ [] }) (rw (one_less, before, unless_at_end, found)) ∙
           rw none_more refl
 

@@ -8,7 +8,7 @@ use mathlib.Core.Bool.{true, false, not}
 use mathlib.Core.List.{List, [], ◌∷◌}
 use mathlib.Core.Path.{◌≡◌, refl, sym, ap, subst, ◌∙◌}
 use Rattle.claims.proofs.Accepted.{Accepted, StepAccepted}
-use Rattle.claims.proofs.Events.{turn-goes, longest-within}
+use Rattle.claims.proofs.Events.{turn_goes, longest-within}
 use Rattle.claims.proofs.Fixed.{own_places}
 use Rattle.claims.proofs.Kept.{Kept, event_keeps}
 use Rattle.claims.proofs.TableLoads.{sound_load}
@@ -36,7 +36,7 @@ use Rattle.rules.specs.declared.record.Record.{Record}
 use Rattle.pass.specs.Passing as passing
 use Rattle.pass.specs.Passing.{under_table, passed_by, turned, flows_turned}
 use Rattle.pass.specs.declared.Passed.TheVariants.{Stops, Goes}
-use Rattle.pass.proofs.Given.{loaded, given, given_at_end, given_budget_used, given-stop, given_step}
+use Rattle.pass.proofs.Given.{loaded, given, given_at_end, given_budget_used, given_stop, given_step}
 use Rattle.pass.proofs.Reached.{Reached, sound, ends, stands_with}
 use Rattle.pass.proofs.Turned.{gives}
 
@@ -68,10 +68,10 @@ as_long {A = A} array n f e few long = ap (λ (l : List A). length l) e ∙ leng
 -- ---- what a turn found, by what the longest step gave
 
 module _ (r : Record) where
-  found-stop : (stop : Stop) (x : Turn) → NoneTaken stop ≡ gives r x → x ≡ stops stop
+  found_stop : (stop : Stop) (x : Turn) → NoneTaken stop ≡ gives r x → x ≡ stops stop
   unfolding gives
-  found-stop stop (stops other) e = cc
-  found-stop stop (goes t) e = let z : ◌≡◌ {A = ℕ} 0 1 = cc in absurd (omega arith)
+  found_stop stop (stops other) e = cc
+  found_stop stop (goes t) e = let z : ◌≡◌ {A = ℕ} 0 1 = cc in absurd (omega arith)
 
   found_step : (t : ℕ) (first last : ℤ) (x : Turn) → Taken t first last ≡ gives r x →
       (x ≡ goes t) × (first ≡ first_or (pos 0) (upward_flows r.layer.frame.top r.layer.frame.bottom t (read_elements (record_site r) (record_state r)))) ×
@@ -84,7 +84,7 @@ module _ (r : Record) where
 
 record Went (after : Progress) (x : Turn) (progress : Progress) : Type 0 where
   t : ℕ
-  goes-is : x ≡ goes t
+  goes_is : x ≡ goes t
   after_is : after ≡ progress
 
 pass_stop : (stop : Stop) (under : Progress) (x : Turn) (p : Progress) → Stops stop under ≡ passed_by x p → (x ≡ stops stop) × (under ≡ p)
@@ -95,7 +95,7 @@ pass_stop stop under (goes t) p e = let z : ◌≡◌ {A = ℕ} 0 1 = cc in absu
 pass_step : (after : Progress) (x : Turn) (p : Progress) → Goes after ≡ passed_by x p → Went after x p
 unfolding passed_by
 pass_step after (stops other) p e = let z : ◌≡◌ {A = ℕ} 0 1 = cc in absurd (omega arith)
-pass_step after (goes t) p e = record { t = t; goes-is = refl; after_is = cc }
+pass_step after (goes t) p e = record { t = t; goes_is = refl; after_is = cc }
 
 -- the progress after a turn with a step
 progress_goes : (r : Record) {x : Turn} (t : ℕ) → x ≡ goes t → (turned r x).layer.progress ≡ progress_of (stepped (record_site r) t (record_state r))
@@ -156,23 +156,23 @@ module _ {r : Record} {end budget : ℕ} {water : List ℕ} {now : Progress} {st
   pub gives_stop : {p : Progress} → p ≡ under.layer.progress → (stop : Stop) → NoneTaken stop ≡ gives under (passing.found here end) →
       Stops stop p ≡ passed_by (passing.found here end) (passing.passed here end).layer.progress
   unfolding passed_by turned
-  gives_stop p-is stop gave = rw (found-stop under stop (passing.found here end) gave, p-is) refl
+  gives_stop p-is stop gave = rw (found_stop under stop (passing.found here end) gave, p-is) refl
 
   module _ (t : ℕ) (first last : ℤ) (gave : Taken t first last ≡ gives under (passing.found here end)) where
     pub went : passing.found here end ≡ goes t
     went = (found_step under t first last (passing.found here end) gave).0
 
     -- the progress after a step
-    pub later-is : {p : Progress} → p ≡ under.layer.progress → progress.later p t first last ≡ progress_of (stepped (record_site under) t (record_state under))
+    pub later_is : {p : Progress} → p ≡ under.layer.progress → progress.later p t first last ≡ progress_of (stepped (record_site under) t (record_state under))
     unfolding stepped record_site record_state
-    later-is p-is =
-        let (goes-is, first_is, last-is) = found_step under t first last (passing.found here end) gave in
+    later_is p-is =
+        let (goes_is, first_is, last-is) = found_step under t first last (passing.found here end) gave in
         rw (p-is, first_is, last-is) refl
 
     pub gives_step : {p : Progress} → p ≡ under.layer.progress →
         Goes (progress.later p t first last) ≡ passed_by (passing.found here end) (passing.passed here end).layer.progress
     unfolding passed_by turned with_state
-    gives_step p-is = rw (went, later-is p-is) refl
+    gives_step p-is = rw (went, later_is p-is) refl
 
   -- ---- where it leads
 
@@ -183,7 +183,7 @@ module _ {r : Record} {end budget : ℕ} {water : List ℕ} {now : Progress} {st
     unfolding turned with_load
     stop_ends stop stopped =
         let still : water' ≡ water = moved ∙ rw stopped refl in
-        rw still (ends r at.is at.whole end budget (at.from_here ∙ given-stop site end budget steps head before left stop stopped) at.rest)
+        rw still (ends r at.is at.whole end budget (at.from_here ∙ given_stop site end budget steps head before left stop stopped) at.rest)
 
     module _ (t : ℕ) (steps_t : found ≡ goes t) where
       abbrev after : State
@@ -193,16 +193,16 @@ module _ {r : Record} {end budget : ℕ} {water : List ℕ} {now : Progress} {st
       clock_in : now.clock.0 + t ≤ end
       unfolding with_load
       clock_in =
-          let (is-longest, least, stays) = turn-goes site (sound r at.is).table next (longest_step site end next) t steps_t in
+          let (is-longest, least, stays) = turn_goes site (sound r at.is).table next (longest_step site end next) t steps_t in
           omega (arith, longest-within site (sound r at.is).table end next at.early)
 
-      kept-after : Kept site r.layer.frame.starting_water after
+      kept_after : Kept site r.layer.frame.starting_water after
       unfolding Accepted after_event
-      kept-after =
-          let (is-longest, least, stays) = turn-goes site (sound r at.is).table next (longest_step site end next) t steps_t in
+      kept_after =
+          let (is-longest, least, stays) = turn_goes site (sound r at.is).table next (longest_step site end next) t steps_t in
           let accepted : StepAccepted site next t = record {
             least = least;
-            clock-most = omega (arith, clock_in, at.late);
+            clock_most = omega (arith, clock_in, at.late);
             short = subst (λ (u : ℕ). T (not (too_long site next u))) is-longest (longest-accepted site end next).1;
             stays = stays;
           } in
@@ -210,18 +210,18 @@ module _ {r : Record} {end budget : ℕ} {water : List ℕ} {now : Progress} {st
 
       size : length after.water ≡ n
       unfolding record_site
-      size = kept-after.size ∙ first_length n r.layer.solids
+      size = kept_after.size ∙ first_length n r.layer.solids
 
-      water-is : water' ≡ overlaid after.water water
+      water_is : water' ≡ overlaid after.water water
       unfolding turned with_state record_site record_state with_load
-      water-is = moved ∙ rw steps_t refl
+      water_is = moved ∙ rw steps_t refl
 
       front_is : first_places n water' ≡ after.water
-      front_is = ap (first_places n) water-is ∙ own_places after.water water n size
+      front_is = ap (first_places n) water_is ∙ own_places after.water water n size
 
       -- the state after the step, as array and progress hold it
-      state-is : state_of n water' (progress_of after) ≡ after
-      state-is i = record {
+      state_is : state_of n water' (progress_of after) ≡ after
+      state_is i = record {
         water = front_is i;
         load = after.load;
         clock = after.clock;
@@ -241,13 +241,13 @@ module _ {r : Record} {end budget : ℕ} {water : List ℕ} {now : Progress} {st
         whole = at.whole;
         few = omega arith;
         early = early_after;
-        kept = rw state-is kept-after;
-        from_here = at.from_here ∙ given_step site end budget steps head before left t steps_t ∙ ap (given site end budget (steps + 1)) (sym state-is);
+        kept = rw state_is kept_after;
+        from_here = at.from_here ∙ given_step site end budget steps head before left t steps_t ∙ ap (given site end budget (steps + 1)) (sym state_is);
         rest =
-            water-is ∙ ap (overlaid after.water) at.rest ∙
+            water_is ∙ ap (overlaid after.water) at.rest ∙
             overlaid-overlaid after.water (first_places n water) r.layer.water (omega (arith, first_length n water, size)) ∙
             ap (λ (l : List ℕ). overlaid l r.layer.water) (sym front_is);
-        long = ap (λ (l : List ℕ). length l) water-is ∙ length-overlaid after.water water (omega (arith, size, (counted r at.is).1, at.long)) ∙ at.long;
+        long = ap (λ (l : List ℕ). length l) water_is ∙ length-overlaid after.water water (omega (arith, size, (counted r at.is).1, at.long)) ∙ at.long;
       }
 
   -- ---- by what a pass gave
@@ -266,4 +266,4 @@ module _ {r : Record} {end budget : ℕ} {water : List ℕ} {now : Progress} {st
     unfolding record_site record_state with_load
     pass_goes after gave =
         let w = pass_step after (passing.found here end) _ gave in
-        rw (w.after_is ∙ progress_goes under w.t w.goes-is) (goes_on before left moved w.t w.goes-is)
+        rw (w.after_is ∙ progress_goes under w.t w.goes_is) (goes_on before left moved w.t w.goes_is)

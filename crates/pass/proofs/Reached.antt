@@ -11,7 +11,7 @@ use Rattle.claims.proofs.Fixed.{Fixed, sized_dry, sound_site, is_a_layer}
 use Rattle.claims.proofs.Kept.{SoundSite, Kept}
 use Rattle.laws.proofs.SiteFacts.{site_parts}
 use Rattle.lent.proofs.CallLaws.{own_front}
-use Rattle.lent.proofs.Standing.{state-is, counted}
+use Rattle.lent.proofs.Standing.{state_is, counted}
 use Rattle.numbers.specs.Arrays.{first_places, overlaid}
 use Rattle.numbers.proofs.Filled.{first_length}
 use Rattle.numbers.proofs.Interval.{within_fits, within_le}
@@ -42,7 +42,7 @@ module _ (r : Record) (is : is_layer r ≡ true) where
         table = p.table;
         top = p.top;
         bottom = p.bottom;
-        starting = inside starting_water_limits r.layer.frame.starting_water (omega arith) (state-is r is).starting_most;
+        starting = inside starting_water_limits r.layer.frame.starting_water (omega arith) (state_is r is).starting_most;
       }
 
   pub sound : SoundSite (record_site r)
@@ -52,14 +52,14 @@ module _ (r : Record) (is : is_layer r ≡ true) where
   pub kept : Kept (record_site r) r.layer.frame.starting_water (record_state r)
   unfolding record_site record_state
   kept =
-      let s = state-is r is in
+      let s = state_is r is in
       record {
         size = first_length r.layer.frame.elements r.layer.water ∙ sym (first_length r.layer.frame.elements r.layer.solids);
         is_on_curve = passed s.is_on_curve;
         load = s.load_between;
-        clock = s.clock-most;
-        top-bound = s.top-bound;
-        bottom-bound = s.bottom-bound;
+        clock = s.clock_most;
+        top_bound = s.top_bound;
+        bottom_bound = s.bottom_bound;
         balanced = s.balance;
       }
 
@@ -85,8 +85,8 @@ pub outflows_fit : {r : Record} {end budget : ℕ} {water : List ℕ} {progress 
     SFits w64 progress.top_outflow.0 × SFits w64 progress.bottom_outflow.0
 outflows_fit at =
     let m = at.kept.clock in (
-      within_fits {n = most_outflow} tt (within_le at.kept.top-bound (omega arith)),
-      within_fits {n = most_outflow} tt (within_le at.kept.bottom-bound (omega arith)),
+      within_fits {n = most_outflow} tt (within_le at.kept.top_bound (omega arith)),
+      within_fits {n = most_outflow} tt (within_le at.kept.bottom_bound (omega arith)),
     )
 
 -- a layer with another state that is kept

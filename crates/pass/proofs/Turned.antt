@@ -6,11 +6,11 @@ use mathlib.Core.Bool.{Bool, true, false, not}
 use mathlib.Core.List.{List}
 use mathlib.Core.Path.{◌≡◌, refl, sym, ap, ◌∙◌}
 use Rattle.element.specs.Elements.{Readable}
-use Rattle.layer_step.proofs.MovingAt.{gives_leaves, gives_flows, keeps, moves-on}
+use Rattle.layer_step.proofs.MovingAt.{gives_leaves, gives_flows, keeps, moves_on}
 use Rattle.layer_step.specs.Moving.{flows_in, stays_between, moved_in, longest_by, water_longest, flows_longest}
 use Rattle.layer_step.specs.declared.Longest.{Longest}
 use Rattle.layer_step.specs.declared.Longest.TheVariants.{NoneTaken, Taken}
-use Rattle.lent.proofs.LayerReads.{steepness_range, readable, limited, bounds_most, waters_most, longest-is, flows_are, leaves-is, stepped-is, above_are}
+use Rattle.lent.proofs.LayerReads.{steepness_range, readable, limited, bounds_most, waters_most, longest_is, flows_are, leaves_is, stepped_is, above_are}
 use Rattle.lent.specs.Worked.{WorkedOut, least_water_in, most_water_in, excesses_in, resistances_in}
 use Rattle.numbers.specs.Lists.{first_or, last_or, greatest}
 use Rattle.pass.specs.Passing.{turned, flows_turned}
@@ -57,16 +57,16 @@ module _ (r : Record) (is : is_layer r ≡ true) (excess₀ : List ℤ) (resista
   by_stay : (t : ℕ) (stays : Bool) → stays_between n (least_water_in r) (most_water_in r) r.layer.water (flows (suc t)) ≡ stays → Same (suc t)
   unfolding longest_by water_longest flows_longest flows_turned turned gives with_state
   by_stay t false e =
-      let off = leaving (record_site r) (record_state r) t true (leaves-is r is excess₀ resistance₀ (suc t) ∙ ap not e) in (
+      let off = leaving (record_site r) (record_state r) t true (leaves_is r is excess₀ resistance₀ (suc t) ∙ ap not e) in (
         ap (longest_by (suc t)) (sym (gives_leaves (flows (suc t)) e)) ∙ rw off refl,
         sym (keeps n r.layer.water (flows (suc t)) e) ∙ rw off refl,
         above_are r is excess₀ resistance₀ (suc t) above,
       )
   by_stay t true e =
-      let on = leaving (record_site r) (record_state r) t false (leaves-is r is excess₀ resistance₀ (suc t) ∙ ap not e) in (
+      let on = leaving (record_site r) (record_state r) t false (leaves_is r is excess₀ resistance₀ (suc t) ∙ ap not e) in (
         ap (longest_by (suc t)) (sym (gives_flows (flows (suc t)) e refl refl)) ∙
             ap (λ (l : List ℤ). Taken (suc t) (first_or (pos 0) l) (last_or (pos 0) l)) (flows_are r is excess₀ resistance₀ (suc t)) ∙ rw on refl,
-        sym (moves-on n r.layer.water (flows (suc t)) e) ∙ stepped-is r is excess₀ resistance₀ (suc t) ∙ rw on refl,
+        sym (moves_on n r.layer.water (flows (suc t)) e) ∙ stepped_is r is excess₀ resistance₀ (suc t) ∙ rw on refl,
         above_are r is excess₀ resistance₀ (suc t) above,
       )
 
@@ -87,30 +87,30 @@ abbrev count : Record → ℕ
 count r = r.layer.frame.elements
 
 module _ (r : Record) (is : is_layer r ≡ true) (excess₀ : List ℤ) (resistance₀ : List ℕ) {excess : List ℤ} {resistance burden sensitivity low high : List ℕ}
-    {steepness : ℕ} (excess-is : excess ≡ excesses_in r excess₀) (resistance-is : resistance ≡ resistances_in r resistance₀)
+    {steepness : ℕ} (excess_is : excess ≡ excesses_in r excess₀) (resistance_is : resistance ≡ resistances_in r resistance₀)
     (worked : WorkedOut r burden sensitivity low high steepness) where
   pub steepness_ranged : (0 < steepness) × (steepness ≤ stress_limits.most)
   steepness_ranged = rw worked.steepness_is (steepness_range r is)
 
   pub limited_now : Limited (count r) resistance sensitivity
-  limited_now = rw (resistance-is, worked.sensitivity-is) (limited r is excess₀ resistance₀)
+  limited_now = rw (resistance_is, worked.sensitivity_is) (limited r is excess₀ resistance₀)
 
   pub readable_now : Readable (count r) excess resistance
-  readable_now = rw (excess-is, resistance-is) (readable r is excess₀ resistance₀)
+  readable_now = rw (excess_is, resistance_is) (readable r is excess₀ resistance₀)
 
   pub waters : (j : ℕ) → j < (count r) → (get_or low j 0 ≤ water_limits.most) × (get_or high j 0 ≤ water_limits.most) × (get_or r.layer.water j 0 ≤ water_limits.most)
   waters j h = rw (worked.low_is, worked.high_is) ((bounds_most r is j h).0, (bounds_most r is j h).1, waters_most r is j h)
 
   module _ (most : ℕ) where
-    abbrev within-most : ℕ
-    within-most = longest_within (top r) (bottom r) steepness (count r) resistance sensitivity most
+    abbrev within_most : ℕ
+    within_most = longest_within (top r) (bottom r) steepness (count r) resistance sensitivity most
 
-    longest_now : within-most ≡ greatest most (λ t. not (too_long (record_site r) (record_state r) t))
-    longest_now = rw (resistance-is, worked.sensitivity-is, worked.steepness_is) (longest-is r is excess₀ resistance₀ most)
+    longest_now : within_most ≡ greatest most (λ t. not (too_long (record_site r) (record_state r) t))
+    longest_now = rw (resistance_is, worked.sensitivity_is, worked.steepness_is) (longest_is r is excess₀ resistance₀ most)
 
     pub turn_is : (above : List ℤ) {t : ℕ} → greatest most (λ t. not (too_long (record_site r) (record_state r) t)) ≡ t →
-        (longest_by within-most (moved_in (count r) low high r.layer.water (flows_in (top r) (bottom r) within-most (count r) excess resistance)) ≡ gives r (turn (record_site r) (record_state r) t)) ×
-        (water_longest within-most (count r) low high r.layer.water (flows_in (top r) (bottom r) within-most (count r) excess resistance) ≡ (turned r (turn (record_site r) (record_state r) t)).layer.water) ×
-        (flows_longest within-most (count r) (top r) excess resistance above ≡ flows_turned r t above)
+        (longest_by within_most (moved_in (count r) low high r.layer.water (flows_in (top r) (bottom r) within_most (count r) excess resistance)) ≡ gives r (turn (record_site r) (record_state r) t)) ×
+        (water_longest within_most (count r) low high r.layer.water (flows_in (top r) (bottom r) within_most (count r) excess resistance) ≡ (turned r (turn (record_site r) (record_state r) t)).layer.water) ×
+        (flows_longest within_most (count r) (top r) excess resistance above ≡ flows_turned r t above)
     turn_is above {t} e =
-        rw (longest_now ∙ e, excess-is, resistance-is, worked.low_is, worked.high_is) (same r is excess₀ resistance₀ above t)
+        rw (longest_now ∙ e, excess_is, resistance_is, worked.low_is, worked.high_is) (same r is excess₀ resistance₀ above t)

@@ -49,17 +49,15 @@ pub fn pass<'a>(
     resistance: &mut [u64; 128],
     above: &mut [i64; 128],
 ) -> Passed
-    ghost r: { Record }
-    requires table_load_value { record_of (soil_of counts void.now stress.now conductivity_void.now conductivity.now) (layer_of frame progress solids.now water.old table_time.now table_load.now) ≡ r }
-    requires r_value { is_layer r ≡ true }
+    requires r_value { let r : Record = record_of (soil_of counts void.now stress.now conductivity_void.now conductivity.now) (layer_of frame progress solids.now water.old table_time.now table_load.now) in is_layer r ≡ true }
     requires clock_lt_end { (progress.clock.0 < end) × (end ≤ clock_limits.most) }
-    requires worked_out { WorkedOut r burden.now sensitivity.now low.now high.now steepness }
+    requires worked_out { let r : Record = record_of (soil_of counts void.now stress.now conductivity_void.now conductivity.now) (layer_of frame progress solids.now water.old table_time.now table_load.now) in WorkedOut r burden.now sensitivity.now low.now high.now steepness }
     requires water_len { (length water.old ≡ 128) × (length excess.old ≡ 128) × (length resistance.old ≡ 128) × (length above.old ≡ 128) × (length stress_segment.old ≡ 128) × (length conductivity_segment.old ≡ 128) }
-    ensures value { result ≡ passed_by (found r end) (passed r end).layer.progress }
-    ensures water_after { water.new ≡ (passed r end).layer.water }
-    ensures above_after { above.new ≡ flows_turned (under_table r) (longest r end) above.old }
-    ensures excess_after { excess.new ≡ excesses_in (under_table r) excess.old }
-    ensures resistance_after { resistance.new ≡ resistances_in (under_table r) resistance.old }
+    ensures value { let r : Record = record_of (soil_of counts void.now stress.now conductivity_void.now conductivity.now) (layer_of frame progress solids.now water.old table_time.now table_load.now) in result ≡ passed_by (found r end) (passed r end).layer.progress }
+    ensures water_after { let r : Record = record_of (soil_of counts void.now stress.now conductivity_void.now conductivity.now) (layer_of frame progress solids.now water.old table_time.now table_load.now) in water.new ≡ (passed r end).layer.water }
+    ensures above_after { let r : Record = record_of (soil_of counts void.now stress.now conductivity_void.now conductivity.now) (layer_of frame progress solids.now water.old table_time.now table_load.now) in above.new ≡ flows_turned (under_table r) (longest r end) above.old }
+    ensures excess_after { let r : Record = record_of (soil_of counts void.now stress.now conductivity_void.now conductivity.now) (layer_of frame progress solids.now water.old table_time.now table_load.now) in excess.new ≡ excesses_in (under_table r) excess.old }
+    ensures resistance_after { let r : Record = record_of (soil_of counts void.now stress.now conductivity_void.now conductivity.now) (layer_of frame progress solids.now water.old table_time.now table_load.now) in resistance.new ≡ resistances_in (under_table r) resistance.old }
     ensures segments { Segments frame.elements counts.compressibility stress_segment.old stress_segment.new }
     ensures segments_2 { Segments frame.elements counts.conductivity conductivity_segment.old conductivity_segment.new }
 {

@@ -46,13 +46,11 @@ pub fn passes<'a>(
     end: u64,
     budget: u64,
 ) -> Ended
-    ghost r: { Record }
-    requires table_load_value { record_of (soil_of counts void.now stress.now conductivity_void.now conductivity.now) (layer_of frame progress solids.now water.old table_time.now table_load.now) ≡ r }
-    requires r_value { is_layer r ≡ true }
+    requires r_value { let r : Record = record_of (soil_of counts void.now stress.now conductivity_void.now conductivity.now) (layer_of frame progress solids.now water.old table_time.now table_load.now) in is_layer r ≡ true }
     requires clock_le_end { (progress.clock.0 ≤ end) × (end ≤ clock_limits.most) × (budget ≤ budget_limits.most) }
-    requires worked_out { WorkedOut r burden.now sensitivity.now low.now high.now steepness }
+    requires worked_out { let r : Record = record_of (soil_of counts void.now stress.now conductivity_void.now conductivity.now) (layer_of frame progress solids.now water.old table_time.now table_load.now) in WorkedOut r burden.now sensitivity.now low.now high.now steepness }
     requires water_len { length water.old ≡ 128 }
-    ensures { ended_run r end budget ≡ record { stop = result.stop; steps = result.steps; after = with_parts r water.new result.progress } }
+    ensures { let r : Record = record_of (soil_of counts void.now stress.now conductivity_void.now conductivity.now) (layer_of frame progress solids.now water.old table_time.now table_load.now) in ended_run r end budget ≡ record { stop = result.stop; steps = result.steps; after = with_parts r water.new result.progress } }
 {
     let mut stress_segment = [0usize; 128];
     let mut conductivity_segment = [0usize; 128];

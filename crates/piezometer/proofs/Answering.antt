@@ -33,24 +33,24 @@ module _ (job readings buffer : List ℕ) (number : ℕ) (answers : List ℕ) (n
       ap (λ (x : Returned). written x (eqb x.number 0)) same ∙ ap (λ (b : Bool). written x b) e
 
   -- number 0: the bytes of the answers
-  pub answers-written : (out last : List ℕ) (size : ℕ) → number ≡ 0 → last ≡ overlaid (bytes_of answers) out → size ≡ 8 * length answers →
+  pub answers_written : (out last : List ℕ) (size : ℕ) → number ≡ 0 → last ≡ overlaid (bytes_of answers) out → size ≡ 8 * length answers →
       (last ≡ overlaid (words_output job readings buffer) out) × (size ≡ length (words_output job readings buffer))
-  answers-written out last size e stored sized =
+  answers_written out last size e stored sized =
       rw (output_is true (eq-eqb number 0 e)) (stored, sized ∙ sym (length-bytes_of answers))
 
   -- any other: the refusal
-  pub refusal-written : (out last : List ℕ) (size : ℕ) → (number ≡ 0 → ⊥) →
+  pub refusal_written : (out last : List ℕ) (size : ℕ) → (number ≡ 0 → ⊥) →
       (last ≡ overlaid (refused_line number) out) × (size ≡ length (refused_line number)) →
       (last ≡ overlaid (words_output job readings buffer) out) × (size ≡ length (words_output job readings buffer))
-  refusal-written out last size h line = rw (output_is false (ne_eqb number 0 h)) line
+  refusal_written out last size h line = rw (output_is false (ne_eqb number 0 h)) line
 
 -- readings by their bytes
-pub field-written : (job readings words blank out last : List ℕ) (size : ℕ) → words ≡ words_in (3 * (length readings / 24)) readings →
+pub field_written : (job readings words blank out last : List ℕ) (size : ℕ) → words ≡ words_in (3 * (length readings / 24)) readings →
     blank ≡ zeros (5 * (length readings / 24)) →
     (last ≡ overlaid (words_output job words blank) out) × (size ≡ length (words_output job words blank)) →
     (last ≡ overlaid (field_output job readings) out) × (size ≡ length (field_output job readings))
 unfolding field_output
-field-written job readings words blank out last size w b line = rw (w, b) at line
+field_written job readings words blank out last size w b line = rw (w, b) at line
 
 -- ---- the fronts of arrays
 

@@ -5,7 +5,7 @@ use lib.ListN.{get_or}
 use mathlib.Core.Bool.{true}
 use mathlib.Core.List.{List}
 use mathlib.Core.Path.{◌≡◌, refl, ap}
-use Rattle.laws.proofs.Rising.{last_abscissa, rising-on}
+use Rattle.laws.proofs.Rising.{last_abscissa, rising_on}
 use Rattle.numbers.specs.Arrays.{tabulate}
 use Rattle.numbers.proofs.Filled.{length-tabulate}
 use Rattle.numbers.specs.Lists.{last_or}
@@ -37,7 +37,7 @@ module _ (n : ℕ) (void conductivity : List ℕ) (two : 2 ≤ n) (rises : risin
   between_ends x =
       let limits = from get_or void 0 0 to get_or void (n - 1) 0 in
       let (first, last) = ends n void conductivity (omega arith) in
-      let on = rising-on (points n void conductivity) x (passed rises) (rw (length-tabulate n (at n void conductivity)) two) in
+      let on = rising_on (points n void conductivity) x (passed rises) (rw (length-tabulate n (at n void conductivity)) two) in
       same_test (within limits x) (is_on (curve_at (points n void conductivity) x))
       (λ t. let (l, m) = within_parts limits x t in on.1 (rw first l, rw last m))
       (λ t. let (l, m) = on.0 t in passed (inside limits x (rw first at l) (rw last at m)))

@@ -70,9 +70,9 @@ too_large_signed limits (negsuc n) e h = absurd h.lt
 
 -- what a constructor answers, by what its test said
 module _ {A : Type 0} (limits : Limits) (n : ℕ) (kept outside : A) where
-  pub tested-kept : within limits n ≡ true → kept ≡ tested limits n kept outside
+  pub tested_kept : within limits n ≡ true → kept ≡ tested limits n kept outside
   unfolding tested
-  tested-kept e = rw (e, tested)
+  tested_kept e = rw (e, tested)
 
   pub tested_outside : within limits n ≡ false → outside ≡ tested limits n kept outside
   unfolding tested

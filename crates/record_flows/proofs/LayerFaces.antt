@@ -114,17 +114,17 @@ module _ (r : Record) (is : is_layer r ≡ true) (excess₀ : List ℤ) (resista
     remainders_are = filled_by (remainder_at t) faces no_face (face_count (n r) (top r) (bottom r)) (face_in (n r) (top r) (bottom r) excess resistance) out faces_count face_is
 
 -- the same of equal arrays
-module _ (r : Record) (is : is_layer r ≡ true) (excess₀ : List ℤ) {excess : List ℤ} (resistance₀ : List ℕ) {resistance : List ℕ} (excess-is : excess ≡ excesses_in r excess₀)
-    (resistance-is : resistance ≡ resistances_in r resistance₀) (before : List ℤ) {after : List ℤ} (t : ℕ) where
+module _ (r : Record) (is : is_layer r ≡ true) (excess₀ : List ℤ) {excess : List ℤ} (resistance₀ : List ℕ) {resistance : List ℕ} (excess_is : excess ≡ excesses_in r excess₀)
+    (resistance_is : resistance ≡ resistances_in r resistance₀) (before : List ℤ) {after : List ℤ} (t : ℕ) where
   pub flows_as :
       after ≡ filled before (face_count (n r) (top r) (bottom r)) (λ k. flow_at t (face_in (n r) (top r) (bottom r) excess resistance k)) →
       after ≡ overlaid (face_flows (record_site r) (record_state r) t) before
-  flows_as e = (rw (excess-is, resistance-is) at e) ∙ flows_are r is excess₀ resistance₀ t before
+  flows_as e = (rw (excess_is, resistance_is) at e) ∙ flows_are r is excess₀ resistance₀ t before
 
   pub remainders_as :
       after ≡ filled before (face_count (n r) (top r) (bottom r)) (λ k. remainder_at t (face_in (n r) (top r) (bottom r) excess resistance k)) →
       after ≡ overlaid (face_remainders (record_site r) (record_state r) t) before
-  remainders_as e = (rw (excess-is, resistance-is) at e) ∙ remainders_are r is excess₀ resistance₀ t before
+  remainders_as e = (rw (excess_is, resistance_is) at e) ∙ remainders_are r is excess₀ resistance₀ t before
 
 -- no layer has more than 129
 pub entry_most : (r : Record) → is_layer r ≡ true → entry_count r ≤ 129
@@ -139,4 +139,4 @@ layer_divides r is t =
     divides_at_each t (layer_faces (record_site r) (record_state r))
     (λ k h.
     rw (← face_is r is [] [] k)
-    (face_ranged _ _ _ _ _ (counted r is).0 site.top-held site.bottom-held (readable r is [] []) k (rw (faces_count r is [] []) h)).resistance_positive)
+    (face_ranged _ _ _ _ _ (counted r is).0 site.top_held site.bottom_held (readable r is [] []) k (rw (faces_count r is [] []) h)).resistance_positive)

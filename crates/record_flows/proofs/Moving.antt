@@ -7,12 +7,12 @@ use mathlib.Core.List.{List, [], ◌∷◌}
 use mathlib.Core.Option.{Option, none, some}
 use mathlib.Core.Path.{◌≡◌, refl, sym, ap, subst, ◌∙◌}
 use native.Mathlib.Omega.{arith}
-use Rattle.claims.proofs.Fixed.{state-after}
+use Rattle.claims.proofs.Fixed.{state_after}
 use Rattle.record_flows.specs.Entries.{MovesJust}
-use Rattle.laws.proofs.Lengths.{elements-length, stepped-length}
+use Rattle.laws.proofs.Lengths.{elements_length, stepped-length}
 use Rattle.laws.proofs.OpenFaces.{any_step_takes}
 use Rattle.laws.specs.Divisions.{all_upward}
-use Rattle.lent.proofs.CallLaws.{not_layer, on_layer, refused-on_layer}
+use Rattle.lent.proofs.CallLaws.{not_layer, on_layer, refused_on_layer}
 use Rattle.lent.proofs.StepLaws.{by_refusal, step_length_outside}
 use Rattle.lent.proofs.Standing.{counted}
 use Rattle.numbers.proofs.Filled.{first_length}
@@ -54,7 +54,7 @@ module _ (r : Record) (t : ℕ) where
       here e p = subst (λ (a : Answered). P a.answer) (sym e) p
 
       free : is_layer r ≡ true → (cause : Option Refusal) → step_refusal (record_site r) (record_state r) t ≡ cause → P (called r (Step t)).answer
-      free is (some cause) e = here (refused-on_layer r (Step t) cause is (by_refusal (record_site r) (record_state r) t (some cause) e)) (otherwise cause)
+      free is (some cause) e = here (refused_on_layer r (Step t) cause is (by_refusal (record_site r) (record_state r) t (some cause) e)) (otherwise cause)
       free is none e = here (on_layer r (Step t) _ is (by_refusal (record_site r) (record_state r) t none e)) (done (record { is = is; free = e }))
 
       go : (b : Bool) → is_layer r ≡ b → P (called r (Step t)).answer
@@ -86,17 +86,17 @@ module _ (r : Record) (t : ℕ) where
         go : (b : Bool) → within step_limits t ≡ b → t ≤ step_limits.most
         go true e = (within_parts step_limits t (passed e)).1
         go false e =
-            let refusal = refused-on_layer r (Step t) StepOutside taken.is (step_length_outside (record_site r) (record_state r) t e) in
+            let refusal = refused_on_layer r (Step t) StepOutside taken.is (step_length_outside (record_site r) (record_state r) t e) in
             let differ : ◌≡◌ {A = ℕ} 2 0 = ap (λ (a : Answered). kind a.answer) (sym refusal ∙ after_is) in
             absurd (omega arith)
 
     -- its flows are those of the faces
-    flows-taken : upward_flows r.layer.frame.top r.layer.frame.bottom t (read_elements (record_site r) (record_state r)) ≡
+    flows_taken : upward_flows r.layer.frame.top r.layer.frame.bottom t (read_elements (record_site r) (record_state r)) ≡
         all_upward r.layer.frame.top r.layer.frame.bottom (face_flows (record_site r) (record_state r) t)
     unfolding face_flows layer_faces record_site record_state
-    flows-taken =
+    flows_taken =
         any_step_takes r.layer.frame.top t r.layer.frame.bottom (read_elements (record_site r) (record_state r))
-        (rw (elements-length (record_site r) (record_state r) long ∙ first_length r.layer.frame.elements r.layer.water) (counted r taken.is).0)
+        (rw (elements_length (record_site r) (record_state r) long ∙ first_length r.layer.frame.elements r.layer.water) (counted r taken.is).0)
       where
         long : length (record_state r).water ≡ length (record_site r).solids
         long = first_length r.layer.frame.elements r.layer.water ∙ sym (first_length r.layer.frame.elements r.layer.solids)
@@ -107,8 +107,8 @@ module _ (r : Record) (t : ℕ) where
       taken = ap (λ (a : Answered). a.answer) after_is;
       moves =
           ap (λ (a : Answered). record_state a.after) after_is ∙
-          state-after r (step_taken t ∷ []) (stepped-length (record_site r) t (record_state r) long ∙ first_length r.layer.frame.elements r.layer.water) ∙
-          ap (moved_by (record_state r)) flows-taken;
+          state_after r (step_taken t ∷ []) (stepped-length (record_site r) t (record_state r) long ∙ first_length r.layer.frame.elements r.layer.water) ∙
+          ap (moved_by (record_state r)) flows_taken;
     }
       where
         long : length (record_state r).water ≡ length (record_site r).solids

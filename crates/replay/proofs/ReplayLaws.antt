@@ -10,7 +10,7 @@ use Rattle.claims.proofs.Opened.{opening_either}
 use Rattle.numbers.specs.Arrays.{tabulate, overlaid}
 use Rattle.numbers.proofs.Filled.{length-tabulate}
 use Rattle.replay.specs.Replaying.{replay_on, written_on, replay_opened, replaying}
-use Rattle.replay.proofs.WordLaws.{tabulate_more, sets_overlaid, words_more, words-length}
+use Rattle.replay.proofs.WordLaws.{tabulate_more, sets_overlaid, words_more, words_length}
 use Rattle.replay.specs.Words.{call_at, call_count, calls_in, answer_words, all_words}
 use Rattle.rules.specs.Calls.{called, replayed}
 use Rattle.rules.specs.Opening.{refused_opening, opening}
@@ -39,10 +39,10 @@ answers_more (first ∷ rest) call r =
     ap (λ (answers : List Answer). (called r first).answer ∷ answers) (answers_more rest call (called r first).after)
 
 -- an answer a call
-pub answers-length : (calls : List Call) (r : Record) → length (replayed r calls).answers ≡ length calls
+pub answers_length : (calls : List Call) (r : Record) → length (replayed r calls).answers ≡ length calls
 unfolding replayed
-answers-length [] r = refl
-answers-length (first ∷ rest) r = ap suc (answers-length rest (called r first).after)
+answers_length [] r = refl
+answers_length (first ∷ rest) r = ap suc (answers_length rest (called r first).after)
 
 -- ---- the loop
 
@@ -63,7 +63,7 @@ module _ (r : Record) (words slice : List ℕ) (i : ℕ) (layer : Record) (out :
   replays_more room next more e k =
       let calls = tabulate i (call_at words) in
       let answers = (replayed r calls).answers in
-      let long : length (all_words answers) ≡ 3 * i = rw (words-length answers, answers-length calls r, length-tabulate i (call_at words)) in
+      let long : length (all_words answers) ≡ 3 * i = rw (words_length answers, answers_length calls r, length-tabulate i (call_at words)) in
       record {
         left = rw (tabulate_more i (call_at words), after_more calls (call_at words i) r, ← h.left) e;
         written =

@@ -47,10 +47,10 @@ words_more [] answer = refl
 words_more (first ∷ rest) answer = rw (words_more rest answer) refl
 
 -- three words an answer
-pub words-length : (answers : List Answer) → length (all_words answers) ≡ 3 * length answers
+pub words_length : (answers : List Answer) → length (all_words answers) ≡ 3 * length answers
 unfolding all_words
-words-length [] = refl
-words-length (first ∷ rest) = omega (arith, words-length rest)
+words_length [] = refl
+words_length (first ∷ rest) = omega (arith, words_length rest)
 
 -- the words of a call that is counted lie within the words, and those of its answer within the room
 pub counted_words : (words room i : ℕ) → i < call_count words room → (3 * i + 3 ≤ words) × (3 * i + 3 ≤ room)

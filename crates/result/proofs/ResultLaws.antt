@@ -19,7 +19,7 @@ use Rattle.numbers.proofs.Filled.{tabulated, get_or-filled, first_length}
 use Rattle.numbers.specs.Integers.{up}
 use Rattle.numbers.proofs.Signed.{signed, sub_parts}
 use Rattle.numbers.specs.Sums.{sum}
-use Rattle.result_elements.proofs.Elements.{elements-length}
+use Rattle.result_elements.proofs.Elements.{elements_length}
 use Rattle.result_head.proofs.HeadLaws.{length-head}
 use Rattle.rules.specs.Curve.{points}
 use Rattle.rules.specs.Layer.{skeleton_of, burdens}
@@ -76,7 +76,7 @@ module _ (r : Record) where
   standing_length : (burden : List ℕ) → length (standing burden) ≡ 40 * n
   standing_length burden =
       let b = first_length n burden in
-      elements-length _ _ _ 0 (first_places n burden) Ss Ws (first_length n r.layer.solids ∙ sym b)
+      elements_length _ _ _ 0 (first_places n burden) Ss Ws (first_length n r.layer.solids ∙ sym b)
       (first_length n r.layer.water ∙ sym b) ∙ ap (λ (k : ℕ). 40 * k) b
 
   module _ (stop : Stop) (steps : ℕ) where
@@ -93,11 +93,11 @@ module _ (r : Record) where
     unfolding result_bytes result_head record_site record_state
     bytes_are burden e = rw (e, first_burdens r.layer.frame r.layer.solids, settled) refl
 
-    pub result-stored : (burden buffer first last : List ℕ) → burden ≡ burdens_in r.layer.frame r.layer.solids →
+    pub result_stored : (burden buffer first last : List ℕ) → burden ≡ burdens_in r.layer.frame r.layer.solids →
         result_size n ≤ length buffer → first ≡ sets buffer 0 headed → last ≡ sets first 56 (standing burden) →
         last ≡ overlaid (result_bytes r stop steps) buffer
     unfolding result_size
-    result-stored burden buffer first last e room h k =
+    result_stored burden buffer first last e room h k =
         let both : length (headed ++ standing burden) ≤ length buffer =
         omega (arith, length-append headed (standing burden), head-length, standing_length burden) in
         sets_then buffer 0 headed (standing burden) h (rw head-length refl) k ∙ sets_front buffer (headed ++ standing burden) both ∙
@@ -143,9 +143,9 @@ module _ (r : Record) (stop : Stop) (steps : ℕ) (buffer : List ℕ) where
   pub short_buffer : is_layer r ≡ true → length buffer < result_size r.layer.frame.elements → result r stop steps buffer ≡ refused_result ShortBuffer buffer
   short_buffer is h = by_refusal (some ShortBuffer) (refused_for_room r (length buffer) is h)
 
-  pub result-written : is_layer r ≡ true → result_size r.layer.frame.elements ≤ length buffer →
+  pub result_written : is_layer r ≡ true → result_size r.layer.frame.elements ≤ length buffer →
       result r stop steps buffer ≡ record { number = 0; buffer = overlaid (result_bytes r stop steps) buffer }
-  result-written is h = by_refusal none (not_refused r (length buffer) is h)
+  result_written is h = by_refusal none (not_refused r (length buffer) is h)
 
 -- ---- what is returned and left, by an equation
 
@@ -153,5 +153,5 @@ module _ {a b : Returned} (e : a ≡ b) where
   pub number_is : b.number ≡ a.number
   number_is = ap (λ (x : Returned). x.number) (sym e)
 
-  pub buffer-is : b.buffer ≡ a.buffer
-  buffer-is = ap (λ (x : Returned). x.buffer) (sym e)
+  pub buffer_is : b.buffer ≡ a.buffer
+  buffer_is = ap (λ (x : Returned). x.buffer) (sym e)

@@ -46,11 +46,9 @@ pub fn write_lent<'a>(
     burden: &'a [u64; 128],
     out: &mut [u8],
 )
-    ghost r: { Record }
-    requires table_load_value { record_of (soil_of counts void.now stress.now conductivity_void.now conductivity.now) (layer_of frame ended.progress solids.now water.now table_time.now table_load.now) ≡ r }
-    requires r_value { is_layer r ≡ true }
+    requires r_value { let r : Record = record_of (soil_of counts void.now stress.now conductivity_void.now conductivity.now) (layer_of frame ended.progress solids.now water.now table_time.now table_load.now) in is_layer r ≡ true }
     requires burden_value { (burden.now ≡ burdens_in frame solids.now) × (result_size frame.elements ≤ length out.old) }
-    ensures { out.new ≡ overlaid (result_bytes r ended.stop ended.steps) out.old }
+    ensures { let r : Record = record_of (soil_of counts void.now stress.now conductivity_void.now conductivity.now) (layer_of frame ended.progress solids.now water.now table_time.now table_load.now) in out.new ≡ overlaid (result_bytes r ended.stop ended.steps) out.old }
 {
     let elements = frame.elements;
     let points = counts.compressibility;

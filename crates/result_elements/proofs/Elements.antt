@@ -17,11 +17,11 @@ use Rattle.rules.specs.Layer.{Skeleton, height, void_ratio, effective_stress}
 use Rattle.rules.specs.Result.{word, signed_word, element_words, pore_pressure, element_bytes, elements_bytes}
 
 -- five stores, one after the other
-pub words-stored : (l a b c d e : List ℕ) (at W E effective : ℕ) (pore : ℤ) → a ≡ sets l at (word W) → b ≡ sets a (at + 8) (word E) →
+pub words_stored : (l a b c d e : List ℕ) (at W E effective : ℕ) (pore : ℤ) → a ≡ sets l at (word W) → b ≡ sets a (at + 8) (word E) →
     c ≡ sets b (at + 16) (word effective) → d ≡ sets c (at + 24) (signed_word (pore +ℤ pos effective)) → e ≡ sets d (at + 32) (signed_word pore) →
     e ≡ sets l at (element_words W E effective pore)
 unfolding element_words
-words-stored l a b c d e at W E effective pore first second third fourth fifth =
+words_stored l a b c d e at W E effective pore first second third fourth fifth =
     let total = signed_word (pore +ℤ pos effective) in
     rw (fifth, fourth, third, second, first)
     (sym (
@@ -34,11 +34,11 @@ words-stored l a b c d e at W E effective pore first second third fourth fifth =
     refl))
 
 -- they are an element's bytes
-pub element-stored : (soil : Skeleton) (level load : ℤ) (below B S W E effective : ℕ) (pore : ℤ) (l out : List ℕ) (at : ℕ) →
+pub element_stored : (soil : Skeleton) (level load : ℤ) (below B S W E effective : ℕ) (pore : ℤ) (l out : List ℕ) (at : ℕ) →
     out ≡ sets l at (element_words W E effective pore) → E ≡ void_ratio S W → effective ≡ value_of (effective_stress soil S W) →
     pore ≡ pore_pressure soil level load below B S W → out ≡ sets l at (element_bytes soil level load below B S W)
 unfolding element_bytes
-element-stored soil level load below B S W E effective pore l out at stored ratio stress pressure = rw (stored, ratio, stress, pressure) refl
+element_stored soil level load below B S W E effective pore l out at stored ratio stress pressure = rw (stored, ratio, stress, pressure) refl
 
 -- the height of some elements
 unfoldable pub height_of : (Ss Ws : List ℕ) → ℕ
@@ -64,21 +64,21 @@ module _ (soil : Skeleton) (level load : ℤ) where
   element-length below B S W = simp length-append
 
   -- 40 bytes an element
-  pub elements-length : (below : ℕ) (Bs Ss Ws : List ℕ) → length Ss ≡ length Bs → length Ws ≡ length Bs →
+  pub elements_length : (below : ℕ) (Bs Ss Ws : List ℕ) → length Ss ≡ length Bs → length Ws ≡ length Bs →
       length (elements_bytes soil level load below Bs Ss Ws) ≡ 40 * length Bs
   unfolding elements_bytes
-  elements-length below [] [] Ws h k = refl
-  elements-length below [] (S ∷ Ss) Ws h k = absurd (omega arith)
-  elements-length below (B ∷ Bs) [] Ws h k = absurd (omega arith)
-  elements-length below (B ∷ Bs) (S ∷ Ss) [] h k = absurd (omega arith)
-  elements-length below (B ∷ Bs) (S ∷ Ss) (W ∷ Ws) h k =
+  elements_length below [] [] Ws h k = refl
+  elements_length below [] (S ∷ Ss) Ws h k = absurd (omega arith)
+  elements_length below (B ∷ Bs) [] Ws h k = absurd (omega arith)
+  elements_length below (B ∷ Bs) (S ∷ Ss) [] h k = absurd (omega arith)
+  elements_length below (B ∷ Bs) (S ∷ Ss) (W ∷ Ws) h k =
       let first = element_bytes soil level load below B S W in
       let rest = elements_bytes soil level load (below + height S W) Bs Ss Ws in
       omega (
         arith,
         length-append first rest,
         element-length below B S W,
-        elements-length (below + height S W) Bs Ss Ws (omega arith) (omega arith),
+        elements_length (below + height S W) Bs Ss Ws (omega arith) (omega arith),
       )
 
   -- one element more comes last, over the height of all others
@@ -115,7 +115,7 @@ module _ (soil : Skeleton) (level load : ℤ) where
       first_elements_length : length (first_elements j) ≡ 40 * j
       first_elements_length =
           let b = first_length j burden in
-          elements-length 0 Bs Ss Ws (first_length j solids ∙ sym b) (first_length j water ∙ sym b) ∙ ap (λ (n : ℕ). 40 * n) b
+          elements_length 0 Bs Ss Ws (first_length j solids ∙ sym b) (first_length j water ∙ sym b) ∙ ap (λ (n : ℕ). 40 * n) b
 
       first_elements_more : first_elements (j + 1) ≡
           first_elements j ++ element_bytes soil level load (height_of Ss Ws) (get_or burden j 0) (get_or solids j 0) (get_or water j 0)
@@ -126,10 +126,10 @@ module _ (soil : Skeleton) (level load : ℤ) where
           (elements_more 0 Bs Ss Ws (get_or burden j 0) (get_or solids j 0) (get_or water j 0) (first_length j solids ∙ sym b) (first_length j water ∙ sym b)))
 
       -- one element more is stored after the others
-      pub elements-stored : (l out next : List ℕ) (below : ℕ) → out ≡ sets l 56 (first_elements j) → below ≡ height_of Ss Ws →
+      pub elements_stored : (l out next : List ℕ) (below : ℕ) → out ≡ sets l 56 (first_elements j) → below ≡ height_of Ss Ws →
           next ≡ sets out (56 + 40 * j) (element_bytes soil level load below (get_or burden j 0) (get_or solids j 0) (get_or water j 0)) →
           next ≡ sets l 56 (first_elements (j + 1))
-      elements-stored l out next below others height one =
+      elements_stored l out next below others height one =
           rw (
             one,
             others,

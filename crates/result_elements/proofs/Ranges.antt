@@ -8,7 +8,7 @@ use native.Mathlib.Omega.{arith}
 use Rattle.laws.specs.Most.{most_excess}
 use Rattle.laws.proofs.Excess as Excess
 use Rattle.laws.proofs.Sizes.{signed_between}
-use Rattle.laws.proofs.VoidRatio.{water-on_curve}
+use Rattle.laws.proofs.VoidRatio.{water_on_curve}
 use Rattle.layer.specs.Soil.{OnSoil}
 use Rattle.numbers.specs.Interval.{Within}
 use Rattle.numbers.proofs.Interval.{intervals, within-add}
@@ -43,16 +43,16 @@ module _ (m : ℕ) (void stress : List ℕ) (sound : compressibility_sound (poin
   abbrev curve : List Point
   curve = points m void stress
 
-  pub water-most : W ≤ water_limits.most
+  pub water_most : W ≤ water_limits.most
   unfolding effective_stress
-  water-most = water-on_curve S on.solids_positive curve W on.solids-most (passed sound) (passed on.is_on_curve)
+  water_most = water_on_curve S on.solids_positive curve W on.solids_most (passed sound) (passed on.is_on_curve)
 
   pub stress_most : value_of (effective_stress (skeleton_of curve) S W) ≤ stress_limits.most
   unfolding effective_stress
   stress_most = Excess.stress_most curve (passed sound) (void_ratio S W)
 
-  pub excess-within : Within (excess_pressure (skeleton_of curve) load B S W) most_excess
-  excess-within = Excess.excess-within curve (passed sound) load B S W on.load_between on.burden-most
+  pub excess_within : Within (excess_pressure (skeleton_of curve) load B S W) most_excess
+  excess_within = Excess.excess_within curve (passed sound) load B S W on.load_between on.burden_most
 
 -- the node of one of 128 elements lies below the highest level
 pub node_low : (below S W : ℕ) → below ≤ most_height → S ≤ solids_limits.most → W ≤ water_limits.most → node_height below S W ≤ level_limits.most

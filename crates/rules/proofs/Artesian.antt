@@ -9,9 +9,9 @@ unfolding over opening_number steady_flows
 artesian = record {
   apart_by_one = refl;
   across_zero = refl;
-  neighbours-apart_by_one = refl;
-  closed_bottom-steady = refl;
-  closed_bottom-moves = refl;
+  neighbours_apart_by_one = refl;
+  closed_bottom_steady = refl;
+  closed_bottom_moves = refl;
   drained_bottom_steady = refl;
   drained_bottom_moves = refl;
   given_and_moving = refl;

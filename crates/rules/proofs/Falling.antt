@@ -16,10 +16,10 @@ use Rattle.quantities.specs.declared.CurveValue.{CurveValue}
 use Rattle.quantities.specs.declared.CurveValue.TheVariants.{On}
 
 -- what a curve gives, by its first segment or by the rest
-pub on-segment : (a b : Point) (rest : List Point) (x : ℕ) (P : CurveValue → Type 0) →
+pub on_segment : (a b : Point) (rest : List Point) (x : ℕ) (P : CurveValue → Type 0) →
     (T (spans a b x) → P (On (interpolated a b x))) → (T (not (spans a b x)) → P (curve_at (b ∷ rest) x)) → P (curve_at (a ∷ b ∷ rest) x)
 unfolding curve_at
-on-segment a b rest x P here there = go (spans a b x) here there
+on_segment a b rest x P here there = go (spans a b x) here there
   where
     go : (c : Bool) → (T c → P (On (interpolated a b x))) → (T (not c) → P (curve_at (b ∷ rest) x)) →
         P (elim c as (λ _. CurveValue) [ true ↦ On (interpolated a b x) | false ↦ curve_at (b ∷ rest) x ])
@@ -70,9 +70,9 @@ module _ (a b : Point) (f : Falls a b) where
       let i = interpolates (b.ordinate - a.ordinate) (distance a.abscissa b.abscissa) (omega (arith, f.left)) in
       omega (arith, f.higher, i.between (distance a.abscissa x) (omega arith))
 
-  pub segment-falls : (x y : ℕ) → x ≤ y → y ≤ a.abscissa → interpolated a b y ≤ interpolated a b x
+  pub segment_falls : (x y : ℕ) → x ≤ y → y ≤ a.abscissa → interpolated a b y ≤ interpolated a b x
   unfolding interpolated
-  segment-falls x y h k =
+  segment_falls x y h k =
       let i = interpolates (b.ordinate - a.ordinate) (distance a.abscissa b.abscissa) (omega (arith, f.left)) in
       omega (arith, i.monotone (distance a.abscissa y) (distance a.abscissa x) (omega arith))
 
@@ -93,7 +93,7 @@ on_from_first (a ∷ []) x f t = absurd t
 on_from_first (a ∷ b ∷ rest) x f t =
     let (h, g) = falling_parts a b rest f in
     let ih = on_from_first (b ∷ rest) x g in
-    on-segment a b rest x (λ v. T (is_on v) → (x ≤ a.abscissa) × (a.ordinate ≤ value_of v))
+    on_segment a b rest x (λ v. T (is_on v) → (x ≤ a.abscissa) × (a.ordinate ≤ value_of v))
     (λ s _. ((spans-within a b h x s).1, segment_from a b h x))
     (λ _ u. let (l, m) = ih u in (omega (arith, h.left), omega (arith, h.higher)))
     t
@@ -107,16 +107,16 @@ never_rises (a ∷ []) x y f h k t = absurd t
 never_rises (a ∷ b ∷ rest) x y f h k t =
     let (s, g) = falling_parts a b rest f in
     let ih = never_rises (b ∷ rest) x y g h in
-    on-segment a b rest x
+    on_segment a b rest x
     (λ v. T (is_on v) → T (is_on (curve_at (a ∷ b ∷ rest) y)) × (value_of (curve_at (a ∷ b ∷ rest) y) ≤ value_of v))
     (λ sx _.
     let sy = within-spans a b s y (le_trans (spans-within a b s x sx).0 h) k in
-    on-segment a b rest y (λ w. T (is_on w) × (value_of w ≤ interpolated a b x))
-    (λ _. (tt, segment-falls a b s x y h k))
+    on_segment a b rest y (λ w. T (is_on w) × (value_of w ≤ interpolated a b x))
+    (λ _. (tt, segment_falls a b s x y h k))
     (λ ny. absurd (T_not (spans a b y) ny sy)))
     (λ nx u.
     let low = on_from_first (b ∷ rest) x g u in
-    on-segment a b rest y (λ w. T (is_on w) × (value_of w ≤ value_of (curve_at (b ∷ rest) x)))
+    on_segment a b rest y (λ w. T (is_on w) × (value_of w ≤ value_of (curve_at (b ∷ rest) x)))
     (λ sy. let (l, m) = spans-within a b s y sy in (tt, le_trans (segment_to a b s y l m) low.1))
     (λ ny. ih (le_of_lt (left_of a b s y k ny)) u))
     t

@@ -77,8 +77,8 @@ module _ (n : ℕ) (xs ys : List ℕ) where
     pub all_fails : i < n → test (at i) ≡ false → false ≡ all test (points n xs ys)
     all_fails h e = stepped h false e
 
-    pub all-goes : i < n → test (at i) ≡ true → all test (drop (i + 1) (points n xs ys)) ≡ all test (points n xs ys)
-    all-goes h e = stepped h true e
+    pub all_goes : i < n → test (at i) ≡ true → all test (drop (i + 1) (points n xs ys)) ≡ all test (points n xs ys)
+    all_goes h e = stepped h true e
 
     pub all_ends : n ≤ i → true ≡ all test (points n xs ys)
     all_ends h = sym (all_end i test h) ∙ inv
@@ -96,5 +96,5 @@ module _ (n : ℕ) (xs ys : List ℕ) where
         neighbours test (drop (i + 1) (points n xs ys)) ≡ neighbours test (points n xs ys)
     neighbours_go h e = moved h true e
 
-    pub neighbours-stop : n ≤ i + 1 → true ≡ neighbours test (points n xs ys)
-    neighbours-stop h = sym (neighbours_end i test h) ∙ inv
+    pub neighbours_stop : n ≤ i + 1 → true ≡ neighbours test (points n xs ys)
+    neighbours_stop h = sym (neighbours_end i test h) ∙ inv

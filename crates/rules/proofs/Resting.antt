@@ -7,7 +7,7 @@ use mathlib.Core.List.{List}
 use mathlib.Core.Option.{none, some}
 use mathlib.Core.Path.{◌≡◌}
 use Rattle.numbers.proofs.Division.{floor_mono}
-use Rattle.numbers.proofs.Searches.{failed, least-found, least_none}
+use Rattle.numbers.proofs.Searches.{failed, least_found, least_none}
 use Rattle.rules.specs.Curve.{Point, curve_at, is_on, value_of, falling}
 use Rattle.rules.specs.Layer.{skeleton_of, void_ratio, effective_stress}
 use Rattle.quantities.specs.Quantities.{void_unit, water_limits}
@@ -49,7 +49,7 @@ module _ (curve : List Point) (falls : T (falling curve)) (S : ℕ) (solid : 0 <
       resting_water (skeleton_of curve) S stress ≡ some (suc W)
   unfolding resting_water
   resting-found W small on passes fails =
-      least-found (λ U. at_most (effective_stress (skeleton_of curve) S U) stress) (suc water_limits.most) 0 (suc W) passes
+      least_found (λ U. at_most (effective_stress (skeleton_of curve) S U) stress) (suc water_limits.most) 0 (suc W) passes
       (λ U h t. failed (at_most (effective_stress (skeleton_of curve) S W) stress) fails (at_most_mono U W (omega arith) on t))
       (omega arith)
       (omega arith)

@@ -72,8 +72,8 @@ module _ (n : ℕ) (void conductivity : List ℕ) (first : List Point) (sound : 
   kept_and_rising : T (all keeps (points n void conductivity)) × T (rising (points n void conductivity))
   kept_and_rising = both (all keeps (points n void conductivity)) (rising (points n void conductivity)) parts.0
 
-  pub rises-up : T (rising (points n void conductivity))
-  rises-up = kept_and_rising.1
+  pub rises_up : T (rising (points n void conductivity))
+  rises_up = kept_and_rising.1
 
   pub covers_first : T (covers (points n void conductivity) first)
   covers_first = parts.1
@@ -86,7 +86,7 @@ module _ (n : ℕ) (void conductivity : List ℕ) (first : List Point) (sound : 
   conductive_segment : (i : ℕ) → i + 1 < n → (get_or void i 0 < get_or void (i + 1) 0) × (get_or conductivity i 0 ≤ get_or conductivity (i + 1) 0)
   unfolding rising
   conductive_segment i h =
-      let (v, k) = both (ltb (get_or void i 0) (get_or void (i + 1) 0)) (leb (get_or conductivity i 0) (get_or conductivity (i + 1) 0)) (neighbours_at n void conductivity _ rises-up i h) in
+      let (v, k) = both (ltb (get_or void i 0) (get_or void (i + 1) 0)) (leb (get_or conductivity i 0) (get_or conductivity (i + 1) 0)) (neighbours_at n void conductivity _ rises_up i h) in
       (ltb→lt (get_or void i 0) (get_or void (i + 1) 0) v, leb→le (get_or conductivity i 0) (get_or conductivity (i + 1) 0) k)
 
   pub conductive : Conductive n void conductivity

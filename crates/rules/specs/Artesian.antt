@@ -17,10 +17,10 @@ pub record Artesian : Type 0 where
   -- any two flows, and not only neighbours; above and below zero
   pub apart_by_one : steady_flows (pos 0 ∷ pos 1 ∷ pos 0 ∷ []) ≡ true
   pub across_zero : steady_flows (negsuc 0 ∷ pos 0 ∷ pos 1 ∷ []) ≡ false
-  pub neighbours-apart_by_one : steady_flows (pos 5 ∷ pos 6 ∷ pos 7 ∷ []) ≡ false
+  pub neighbours_apart_by_one : steady_flows (pos 5 ∷ pos 6 ∷ pos 7 ∷ []) ≡ false
   -- over a closed bottom 1 nm leaves by the top, and 2 nm
-  pub closed_bottom-steady : opening_number (over 0 2 0 2_000_000 5_000_147) ≡ 0
-  pub closed_bottom-moves : opening_number (over 0 2 0 2_000_000 5_000_148) ≡ 20
+  pub closed_bottom_steady : opening_number (over 0 2 0 2_000_000 5_000_147) ≡ 0
+  pub closed_bottom_moves : opening_number (over 0 2 0 2_000_000 5_000_148) ≡ 20
   -- 100,501 nm enter by the bottom and 100,500 leave by the top; over 999 s they would differ by 2
   pub drained_bottom_steady : opening_number (over 1 2 1_517_512_029 2_000_000 12_394_288) ≡ 0
   -- 100,502 enter

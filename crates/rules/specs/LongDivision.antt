@@ -52,8 +52,8 @@ pub record LongDivision : Type 0 where
   pub five_seconds : map (flow_at 5) (open_faces above below three) ≡ negsuc 2 ∷ pos 10 ∷ negsuc 4 ∷ pos 5 ∷ []
   pub five_seconds_leave : map (remainder_at 5) (open_faces above below three) ≡ negsuc 0 ∷ pos 0 ∷ negsuc 4 ∷ pos 5 ∷ []
   -- case 2 of the specimen: 1,000,000,000 = 13,591 × 73,575 + 42,175 at the top
-  pub specimen-flows : flows_from specimen 100 ≡ pos 0 ∷ pos 13_591 ∷ []
-  pub specimen-leaves : remainders_from specimen 100 ≡ pos 0 ∷ pos 42_175 ∷ []
+  pub specimen_flows : flows_from specimen 100 ≡ pos 0 ∷ pos 13_591 ∷ []
+  pub specimen_leaves : remainders_from specimen 100 ≡ pos 0 ∷ pos 42_175 ∷ []
   -- note 3's layer over an artesian bottom: what enters there goes out by less than 0
   pub artesian_flows : flows_from (over 1 2 1_517_512_029 2_000_000 12_394_288) 1_000 ≡ negsuc 100_500 ∷ pos 100_500 ∷ []
   pub artesian_leaves : remainders_from (over 1 2 1_517_512_029 2_000_000 12_394_288) 1_000 ≡ negsuc 43_924 ∷ pos 500 ∷ []

@@ -5,7 +5,7 @@ use mathlib.Core.Bool.{Bool, true, false, not, ◌||◌}
 use mathlib.Core.List.{[], ◌∷◌}
 use mathlib.Core.Option.{Option, none, some}
 use mathlib.Core.Path.{◌≡◌, refl, ap, ◌∙◌}
-use Rattle.lent.proofs.CallLaws.{on_layer, refused-on_layer}
+use Rattle.lent.proofs.CallLaws.{on_layer, refused_on_layer}
 use Rattle.lent.specs.Progress.{refused_with}
 use Rattle.rules.specs.Calls.{called, Ending, ended_run}
 use Rattle.rules.specs.Outcome.{Outcome, refused, ran, outcome}
@@ -41,7 +41,7 @@ module _ (r : Record) (end budget : ℕ) (is : is_layer r ≡ true) where
     pub run_outside : (late || not timed || not counted) ≡ true → called r (Run end budget) ≡ refused_with RunOutside r
     unfolding first_cause
     run_outside e =
-        refused-on_layer r (Run end budget) RunOutside is
+        refused_on_layer r (Run end budget) RunOutside is
         (by_refusal (some RunOutside) (by_tests ∙ ap (λ (b : Bool). first_cause ((RunOutside if b) ∷ [])) e))
 
     pub run_within : (late || not timed || not counted) ≡ false → called r (Run end budget) ≡ ran_to (ended_run r end budget)

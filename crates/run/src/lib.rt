@@ -34,12 +34,10 @@ pub fn run_lent<'a>(
     end: u64,
     budget: u64,
 ) -> Ended
-    ghost r: { Record }
-    requires table_load_value { record_of (soil_of counts void.now stress.now conductivity_void.now conductivity.now) (layer_of frame progress solids.now water.old table_time.now table_load.now) ≡ r }
-    requires r_value { is_layer r ≡ true }
+    requires r_value { let r : Record = record_of (soil_of counts void.now stress.now conductivity_void.now conductivity.now) (layer_of frame progress solids.now water.old table_time.now table_load.now) in is_layer r ≡ true }
     requires clock_le_end { (progress.clock.0 ≤ end) × (end ≤ clock_limits.most) × (budget ≤ budget_limits.most) }
     requires water_len { (length water.old ≡ 128) × (burden.now ≡ burdens_in frame solids.now) }
-    ensures { ended_run r end budget ≡ record { stop = result.stop; steps = result.steps; after = with_parts r water.new result.progress } }
+    ensures { let r : Record = record_of (soil_of counts void.now stress.now conductivity_void.now conductivity.now) (layer_of frame progress solids.now water.old table_time.now table_load.now) in ended_run r end budget ≡ record { stop = result.stop; steps = result.steps; after = with_parts r water.new result.progress } }
 {
     if progress.clock.0 == end {
         return passes::ended(Stop::AtEnd, 0, progress);

@@ -9,9 +9,9 @@ use mathlib.Core.List.{List}
 use mathlib.Core.Option.{none, some}
 use mathlib.Core.Path.{◌≡◌}
 use Rattle.laws.specs.Bounds.{lowest_water, highest_water}
-use Rattle.laws.proofs.Bounds.{highest-water, water_bounds}
+use Rattle.laws.proofs.Bounds.{highest_water_lem, water_bounds}
 use Rattle.laws.proofs.Index.{points-length}
-use Rattle.numbers.proofs.Searches.{failed, both, least-found, least_none}
+use Rattle.numbers.proofs.Searches.{failed, both, least_found, least_none}
 use Rattle.rules.specs.Curve.{Point, points, compressibility_sound}
 use Rattle.rules.specs.Layer.{skeleton_of, effective_stress}
 use Rattle.quantities.specs.Quantities.{water_limits}
@@ -46,7 +46,7 @@ module _ (m : ℕ) (void stress : List ℕ) (two : 2 ≤ m) (sound : compressibi
   -- below a height that does not rest, none does
   pub none_below : (W : ℕ) → W ≤ highest → rests_at curve S most W ≡ false → (U : ℕ) → U ≤ W → T (rests_at curve S most U) → ⊥
   none_below W h fails U k t =
-      let on = (highest-water S solid W (get_or void 0 0)).1 h in
+      let on = (highest_water_lem S solid W (get_or void 0 0)).1 h in
       failed (rests_at curve S most W) fails
       (at_most_mono curve (falls_down m void stress sound) S solid most U W k (rw (first_void m void stress (omega arith)) on) t)
 
@@ -54,7 +54,7 @@ module _ (m : ℕ) (void stress : List ℕ) (two : 2 ≤ m) (sound : compressibi
   pub rests_least : (W : ℕ) → W ≤ water_limits.most → T (rests_at curve S most W) → ((U : ℕ) → U < W → T (rests_at curve S most U) → ⊥) →
       resting_water (skeleton_of curve) S most ≡ some W
   unfolding resting_water
-  rests_least W h t below = least-found (rests_at curve S most) (suc water_limits.most) 0 W t below (omega arith) (omega arith)
+  rests_least W h t below = least_found (rests_at curve S most) (suc water_limits.most) 0 W t below (omega arith) (omega arith)
 
   -- no height rests where the highest does not
   pub rests_nowhere : rests_at curve S most highest ≡ false → resting_water (skeleton_of curve) S most ≡ none

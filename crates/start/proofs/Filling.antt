@@ -35,8 +35,8 @@ abbrev pub height_at : (soil : Skeleton) (load : ℕ) (burden solids : List ℕ)
 height_at soil load burden solids i = Option.get_or (resting_at soil load burden solids i) 0
 
 -- the height that is found
-pub height-is : {o : Option ℕ} {W : ℕ} → o ≡ some W → W ≡ Option.get_or o 0
-height-is e = sym (ap (λ (p : Option ℕ). Option.get_or p 0) e)
+pub height_is : {o : Option ℕ} {W : ℕ} → o ≡ some W → W ≡ Option.get_or o 0
+height_is e = sym (ap (λ (p : Option ℕ). Option.get_or p 0) e)
 
 module _ (soil : Skeleton) (load n : ℕ) (burden solids start water : List ℕ) (j : ℕ)
     (so_far : water ≡ filled start j (height_at soil load burden solids))

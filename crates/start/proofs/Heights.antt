@@ -95,10 +95,10 @@ heights_until soil load (suc n) (suc j) B S h k e f =
 -- ---- how many heights, and how high
 
 -- the least that passes a test is one of those tried
-least-below : (test : ℕ → Bool) (count n found : ℕ) → least count n test ≡ some found → found < n + count
+least_below : (test : ℕ → Bool) (count n found : ℕ) → least count n test ≡ some found → found < n + count
 unfolding least
-least-below test zero n found e = absurd (none-ne-some found e)
-least-below test (suc count) n found e = go (test n) e (least-below test count (suc n) found)
+least_below test zero n found e = absurd (none-ne-some found e)
+least_below test (suc count) n found e = go (test n) e (least_below test count (suc n) found)
   where
     go : (passes : Bool) → elim passes as (λ _. Option ℕ) [ true ↦ some n | false ↦ least count (suc n) test ] ≡ some found →
         (least count (suc n) test ≡ some found → found < suc n + count) → found < n + suc count
@@ -111,7 +111,7 @@ module _ (soil : Skeleton) (load : ℕ) where
   under_most B S W e = go (leb (load + B) (last_stress soil.compressibility)) e
     where
       go : (under : Bool) → elim under as (λ _. Option ℕ) [ true ↦ resting_water soil S (load + B) | false ↦ none ] ≡ some W → W ≤ water_limits.most
-      go true e = omega (arith, least-below (λ U. at_most (effective_stress soil S U) (load + B)) (suc water_limits.most) 0 W e)
+      go true e = omega (arith, least_below (λ U. at_most (effective_stress soil S U) (load + B)) (suc water_limits.most) 0 W e)
       go false e = absurd (none-ne-some W e)
 
   -- each keeps the greatest height

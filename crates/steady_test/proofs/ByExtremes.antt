@@ -8,7 +8,7 @@ use lib.Signed.{lt_z, le_z, ◌≤ℤ◌}
 use mathlib.Core.Bool.{Bool, true, false, cond}
 use mathlib.Core.List.{List, ◌∷◌}
 use mathlib.Core.Path.{◌≡◌, refl, subst}
-use Rattle.laws.proofs.Every.{every-all, every_at, every_map, every-tabulate}
+use Rattle.laws.proofs.Every.{every_all, every_at, every_map, every_tabulate}
 use Rattle.laws.specs.Amid.{Between}
 use Rattle.laws.specs.Every.{Every}
 use Rattle.numbers.proofs.Searches.{passed, is_true, same_test, by_test}
@@ -129,24 +129,24 @@ module _ (lowest : ℤ) (n : ℕ) (above : ℕ → ℤ) where
   extremes_near : T (steady_flows flows) → T (near e.least e.greatest)
   unfolding steady_flows any_two
   extremes_near t =
-      let all_Near = (every-all (λ a. all (near a) flows) flows).0 t in
+      let all_Near = (every_all (λ a. all (near a) flows) flows).0 t in
       let (first, each) = each_has (λ a. T (all (near a) flows)) all_Near in
       let least-near = (extremes_have lowest above (λ a. T (all (near a) flows)) n first each).0 in
-      let (first', each') = each_has (λ b. T (near e.least b)) ((every-all (near e.least) flows).0 least-near) in
+      let (first', each') = each_has (λ b. T (near e.least b)) ((every_all (near e.least) flows).0 least-near) in
       (extremes_have lowest above (λ b. T (near e.least b)) n first' each').1
 
-  flows-near : le_z (e.greatest -ℤ e.least) (pos 1) ≡ true → T (steady_flows flows)
+  flows_near : le_z (e.greatest -ℤ e.least) (pos 1) ≡ true → T (steady_flows flows)
   unfolding steady_flows any_two Every
-  flows-near k =
+  flows_near k =
       let (first, each) = extremes_bound lowest above n in
-      let amidst : Every (Amidst lowest above n) flows = (first, every-tabulate (Amidst lowest above n) n above each) in
-      (every-all (λ a. all (near a) flows) flows).1
+      let amidst : Every (Amidst lowest above n) flows = (first, every_tabulate (Amidst lowest above n) n above each) in
+      (every_all (λ a. all (near a) flows) flows).1
       (every_map (Amidst lowest above n) (λ a. T (all (near a) flows))
       (λ a between.
-      (every-all (near a) flows).1
+      (every_all (near a) flows).1
       (every_map (Amidst lowest above n) (λ b. T (near a b)) (λ b. near_amid e.least e.greatest a b k between) flows amidst)) flows amidst)
 
   pub by_extremes : steady_flows flows ≡ le_z (e.greatest -ℤ e.least) (pos 1)
   by_extremes =
       same_test (steady_flows flows) (le_z (e.greatest -ℤ e.least) (pos 1)) (λ t. passed (near_apart e.least e.greatest (extremes_near t)))
-      (λ t. flows-near (is_true _ t))
+      (λ t. flows_near (is_true _ t))

@@ -30,15 +30,15 @@ use Rattle.steady_test.specs.declared.standing.Standing.{Standing}
 module _ (h : Held) (stands : Stands h) (j : ℕ) (k : j < h.elements) where
   pub excess_in : Within (excess_at h j) most_excess
   excess_in =
-      let on = stands.on-soil j k in
-      Excess.excess-within (compressibility_points h.soil) (passed stands.soil.compressibility_is_sound) _ _ (get_or h.solids j 0) (get_or h.water j 0)
-      on.load_between on.burden-most
+      let on = stands.on_soil j k in
+      Excess.excess_within (compressibility_points h.soil) (passed stands.soil.compressibility_is_sound) _ _ (get_or h.solids j 0) (get_or h.water j 0)
+      on.load_between on.burden_most
 
   pub resistance_in : Excess.Resists (resistance_at h j)
   resistance_in =
-      let on = stands.on-soil j k in
+      let on = stands.on_soil j k in
       Excess.resistance_ranged (compressibility_points h.soil) (conductivity_points h.soil) (passed stands.soil.compressibility_is_sound)
-      (passed stands.soil.conductivity_is_sound) (get_or h.solids j 0) (get_or h.water j 0) on.solids_positive on.solids-most (passed on.is_on_curve)
+      (passed stands.soil.conductivity_is_sound) (get_or h.solids j 0) (get_or h.water j 0) on.solids_positive on.solids_most (passed on.is_on_curve)
 
 module _ (top : Face) (h : Held) (j : ℕ) where
   -- through an inner face
@@ -81,22 +81,22 @@ module _ (h : Held) (stands : Stands h) (j : ℕ) (k : j < h.elements) {here : S
   resistance_range = rw here_is ((resistance_in h stands j k).positive, (resistance_in h stands j k).most)
 
   -- out through a face
-  pub outward-is : (face : Face) → outward face steady_seconds (element_of here.excess here.resistance 0) ≡
+  pub outward_is : (face : Face) → outward face steady_seconds (element_of here.excess here.resistance 0) ≡
       outward face steady_seconds (element_of (excess_at h j) (resistance_at h j) 0)
-  outward-is face = rw here_is refl
+  outward_is face = rw here_is refl
 
 -- an element and the one above it
 module _ (h : Held) (stands : Stands h) (j : ℕ) (k : j + 1 < h.elements) {here above : Standing} (here_is : here ≡ standing_at h j)
-    (above-is : above ≡ standing_at h (j + 1)) where
+    (above_is : above ≡ standing_at h (j + 1)) where
   pub apart : Within (here.excess -ℤ above.excess) most_difference
   apart =
-      within_le (within-sub (excess_range h stands j (omega arith) here_is) (excess_range h stands (j + 1) k above-is)) (lit≤ tt)
+      within_le (within-sub (excess_range h stands j (omega arith) here_is) (excess_range h stands (j + 1) k above_is)) (lit≤ tt)
 
   pub apart_fits : SFits w64 (here.excess -ℤ above.excess)
   apart_fits = within_fits tt apart
 
   pub sum_range : (0 < here.resistance + above.resistance) × (here.resistance + above.resistance ≤ most_face_resistance)
-  sum_range = omega (arith, resistance_range h stands j (omega arith) here_is, resistance_range h stands (j + 1) k above-is)
+  sum_range = omega (arith, resistance_range h stands j (omega arith) here_is, resistance_range h stands (j + 1) k above_is)
 
   pub flow_is : (top : Face) → cut ((here.excess -ℤ above.excess) *ℤ pos steady_seconds) (here.resistance + above.resistance) ≡ flow_over top h j
-  flow_is top = rw (here_is, above-is, flow_between top h j k) refl
+  flow_is top = rw (here_is, above_is, flow_between top h j k) refl

@@ -69,12 +69,10 @@ pub fn of_flows<'a>(
     solids: &'a [u64; 128],
     water: &'a [u64; 128],
 ) -> Extremes
-    ghost h: { Held }
-    requires water_value { held_of (soil_of counts void.now stress.now conductivity_void.now conductivity.now) elements load.0 burden.now solids.now water.now ≡ h }
     requires elements_nonzero { (0 < elements) × (elements ≤ element_limits.most) }
     requires held_within { HeldWithin top × HeldWithin bottom }
-    requires stands { Stands h }
-    ensures { result ≡ extremes_to (lowest_flow bottom h) elements (flow_over top h) }
+    requires stands { let h : Held = held_of (soil_of counts void.now stress.now conductivity_void.now conductivity.now) elements load.0 burden.now solids.now water.now in Stands h }
+    ensures { let h : Held = held_of (soil_of counts void.now stress.now conductivity_void.now conductivity.now) elements load.0 burden.now solids.now water.now in result ≡ extremes_to (lowest_flow bottom h) elements (flow_over top h) }
 {
     let points = counts.compressibility;
     let conductivity_points = counts.conductivity;

@@ -28,11 +28,9 @@ pub fn is_steady<'a>(
     table_time: &'a [u64; 64],
     table_load: &'a [u64; 64],
 ) -> bool
-    ghost r: { Record }
-    requires table_load_value { record_of (soil_of counts void.now stress.now conductivity_void.now conductivity.now) (layer_of frame progress solids.now water.now table_time.now table_load.now) ≡ r }
-    requires r_value { is_layer r ≡ true }
+    requires r_value { let r : Record = record_of (soil_of counts void.now stress.now conductivity_void.now conductivity.now) (layer_of frame progress solids.now water.now table_time.now table_load.now) in is_layer r ≡ true }
     requires by_index { (j : ℕ) → j < frame.elements → get_or burden.now j 0 ≡ burden_at frame.gravity frame.elements solids.now j }
-    ensures { result ≡ steady (record_site r) (record_state r) }
+    ensures { let r : Record = record_of (soil_of counts void.now stress.now conductivity_void.now conductivity.now) (layer_of frame progress solids.now water.now table_time.now table_load.now) in result ≡ steady (record_site r) (record_state r) }
 {
     let top = frame.top;
     let bottom = frame.bottom;

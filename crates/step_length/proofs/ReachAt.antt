@@ -7,9 +7,9 @@ use lib.IntN.{pos}
 use lib.ListN.{get_or, drop}
 use mathlib.Core.List.{List, [], ◌∷◌}
 use mathlib.Core.Path.{◌≡◌, sym, ap, ◌∙◌}
-use Rattle.laws.proofs.Contacts.{Limiting, every-contact}
+use Rattle.laws.proofs.Contacts.{Limiting, every_contact}
 use Rattle.laws.specs.Every.{Every}
-use Rattle.laws.proofs.Every.{every-tabulate}
+use Rattle.laws.proofs.Every.{every_tabulate}
 use Rattle.laws.specs.Most.{most_sensitivity, most_divisor}
 use Rattle.laws.specs.Shorten.{shortened}
 use Rattle.laws.proofs.Shorten.{shortened-append, greatest-shortened, too_long-shortened, inner_shortened}
@@ -43,17 +43,17 @@ module _ (top bottom : Face) (K : ℕ) (steepness : 0 < K) (n : ℕ) (resistance
 
   limiting : Every (Limiting K) (touching top bottom n resistance sensitivity)
   unfolding elements_in
-  limiting = every-contact (λ c. 0 < 2 * c * K) top bottom es (every-tabulate (λ e. 0 < 2 * e.sensitivity * K) n (element_in [] resistance sensitivity) divides)
+  limiting = every_contact (λ c. 0 < 2 * c * K) top bottom es (every_tabulate (λ e. 0 < 2 * e.sensitivity * K) n (element_in [] resistance sensitivity) divides)
 
   -- the longest step is the given one, shortened for each contact
-  pub longest-is : (most : ℕ) → longest_within top bottom K n resistance sensitivity most ≡ shortened K most (contacts top bottom es)
+  pub longest_is : (most : ℕ) → longest_within top bottom K n resistance sensitivity most ≡ shortened K most (contacts top bottom es)
   unfolding longest_within is_too_long
-  longest-is most = greatest-shortened K most (contacts top bottom es) limiting
+  longest_is most = greatest-shortened K most (contacts top bottom es) limiting
 
   -- a step is too long just where the longest within it is shorter
-  pub too_long-is : (t : ℕ) → ltb (longest_within top bottom K n resistance sensitivity t) t ≡ is_too_long top bottom K n resistance sensitivity t
+  pub too_long_is : (t : ℕ) → ltb (longest_within top bottom K n resistance sensitivity t) t ≡ is_too_long top bottom K n resistance sensitivity t
   unfolding is_too_long
-  too_long-is t = rw (longest-is t) (too_long-shortened K t (contacts top bottom es) limiting)
+  too_long_is t = rw (longest_is t) (too_long-shortened K t (contacts top bottom es) limiting)
 
   -- first for the bottom
   pub from_bottom : 0 < n → (most : ℕ) →

@@ -20,6 +20,6 @@ longest_within top bottom steepness elements resistance sensitivity most = great
 
 -- what the longest step needs: no resistance and no sensitivity is out of range
 pub record Limited (elements : ℕ) (resistance sensitivity : List ℕ) : Type 0 where
-  pub resistance-most : (j : ℕ) → j < elements → get_or resistance j 0 ≤ most_resistance
+  pub resistance_most : (j : ℕ) → j < elements → get_or resistance j 0 ≤ most_resistance
   pub sensitivity_positive : (j : ℕ) → j < elements → 0 < get_or sensitivity j 0
-  pub sensitivity-most : (j : ℕ) → j < elements → get_or sensitivity j 0 ≤ most_sensitivity
+  pub sensitivity_most : (j : ℕ) → j < elements → get_or sensitivity j 0 ≤ most_sensitivity

@@ -132,9 +132,9 @@ module _ (n : ℕ) (time load : List ℕ) where
     unfolding load_at
     load_here h k = rw (from_segment n time load i h, lt-ltb now (get_or time (i + 1) 0) k, load_at)
 
-    pub load-later : i + 1 < n → get_or time (i + 1) 0 ≤ now → load_at (drop i table) now ≡ load_at (drop (i + 1) table) now
+    pub load_later : i + 1 < n → get_or time (i + 1) 0 ≤ now → load_at (drop i table) now ≡ load_at (drop (i + 1) table) now
     unfolding load_at
-    load-later h k =
+    load_later h k =
         rw (from_segment n time load i h, from_point n time load (i + 1) h, le-ltb now (get_or time (i + 1) 0) k, load_at)
 
     pub load_last : i + 1 ≡ n → load_at (drop i table) now ≡ pos (get_or load i 0)

@@ -15,7 +15,7 @@ use Rattle.rules.specs.Step.{new_height}
 -- what enters an element is in range
 pub entering : (n : ℕ) (lowest : ℤ) (above : List ℤ) (water : List ℕ) → Movable n lowest above water → (j : ℕ) → j < n →
     Within (get_or (lowest ∷ above) j (pos 0)) most_flow
-entering n lowest above water m zero h = m.lowest-within
+entering n lowest above water m zero h = m.lowest_within
 entering n lowest above water m (suc j) h = m.above_within j (omega arith)
 
 -- a height that is not negative is its size, whatever it was before

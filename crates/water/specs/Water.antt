@@ -24,6 +24,6 @@ stays_at lowest above water low high j = between (get_or low j 0) (get_or high j
 
 -- what moving water needs: no height and no flow is out of range
 pub record Movable (elements : ℕ) (lowest : ℤ) (above : List ℤ) (water : List ℕ) : Type 0 where
-  pub lowest-within : Within lowest most_flow
+  pub lowest_within : Within lowest most_flow
   pub above_within : (j : ℕ) → j < elements → Within (get_or above j (pos 0)) most_flow
-  pub water-most : (j : ℕ) → j < elements → get_or water j 0 ≤ water_limits.most
+  pub water_most : (j : ℕ) → j < elements → get_or water j 0 ≤ water_limits.most

@@ -31,8 +31,8 @@ module _ (g n : ℕ) (solids : List ℕ) (j : ℕ) where
   weight_end h = rw (drop-tabulate_end n (λ i. get_or solids i 0) j h)
 
   -- B: those above it, and half its own
-  pub burden-is : j < n → burden_at g n solids j ≡ weight_from g n solids (j + 1) + floor (buoyant_weight g (get_or solids j 0)) 2
+  pub burden_is : j < n → burden_at g n solids j ≡ weight_from g n solids (j + 1) + floor (buoyant_weight g (get_or solids j 0)) 2
   unfolding burden_at weight_from burden first_places
-  burden-is h =
+  burden_is h =
       burden_at_lem g (first_places n solids) j 0 (rw (length-tabulate n (λ i. get_or solids i 0)) h) ∙
       (rw (get_or-tabulate n (λ i. get_or solids i 0) j 0 h, add-one j))

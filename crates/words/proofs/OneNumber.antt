@@ -28,13 +28,13 @@ use Rattle.writer.specs.declared.Written.TheVariants as written
 use Rattle.writer.specs.Writing.{Writing, job_bytes, writing, written_number, writing_number}
 
 -- the number of every refusal is below a header's length, and no job is shorter than that
-pub refusal-below-length : (cause : Refusal) (h : Header) → (refusal_number cause < header_length) × (header_length ≤ job_length h)
+pub refusal_below_length : (cause : Refusal) (h : Header) → (refusal_number cause < header_length) × (header_length ≤ job_length h)
 unfolding job_length
-refusal-below-length cause h = let (_, most) = cause_numbered cause in (omega arith, omega arith)
+refusal_below_length cause h = let (_, most) = cause_numbered cause in (omega arith, omega arith)
 
 -- what the number tells of a buffer: it is left whole, or so many bytes at its beginning are written
 pub record Told (buffer : List ℕ) (x : Returned) : Type 0 where
-  pub refused-whole : x.number < header_length → x.buffer ≡ buffer
+  pub refused_whole : x.number < header_length → x.buffer ≡ buffer
   pub fits : header_length ≤ x.number → x.number ≤ length buffer
   pub past : header_length ≤ x.number → x.buffer ≡ overlaid (take x.number x.buffer) buffer
 
@@ -42,7 +42,7 @@ module _ (buffer : List ℕ) where
   told_refused : (cause : Refusal) → Told buffer (record { number = refusal_number cause; buffer = buffer })
   told_refused cause =
       let (_, most) = cause_numbered cause in record {
-        refused-whole = λ _. refl;
+        refused_whole = λ _. refl;
         fits = λ h. absurd (omega arith);
         past = λ h. absurd (omega arith);
       }
@@ -51,7 +51,7 @@ module _ (buffer : List ℕ) where
       Told buffer (record { number = job_length d.header; buffer = overlaid (job_bytes d) buffer })
   unfolding overlaid job_length
   told_written d h = record {
-    refused-whole = λ l. absurd (omega arith);
+    refused_whole = λ l. absurd (omega arith);
     fits = λ _. h;
     past = λ _. rw (← job_length_lem d, take-append_seam (job_bytes d) _) refl;
   }

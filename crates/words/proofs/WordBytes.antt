@@ -58,7 +58,7 @@ module _ (words before : List ℕ) where
       refl
 
   -- all words
-  pub stored-all : (i : ℕ) (out : List ℕ) → out ≡ sets before 0 (bytes_of (take i words)) → length words ≤ i →
+  pub stored_all : (i : ℕ) (out : List ℕ) → out ≡ sets before 0 (bytes_of (take i words)) → length words ≤ i →
       8 * length words ≤ length before → out ≡ overlaid (bytes_of words) before
-  stored-all i out e all room =
+  stored_all i out e all room =
       e ∙ rw (take_all i words all) (sets_front before (bytes_of words) (rw (length-bytes_of words) room))

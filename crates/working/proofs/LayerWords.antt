@@ -65,7 +65,7 @@ module _ (r : Record) (is : is_layer r ≡ true) (t : ℕ) (excess₀ : List ℤ
   pub faces_stored : (before : List ℕ) {after : List ℕ} {excess : List ℤ} {resistance : List ℕ} → excess ≡ excesses_in r excess₀ →
       resistance ≡ resistances_in r resistance₀ → after ≡ sets before 0 (faces_in t (n r) (top r) (bottom r) excess resistance) →
       after ≡ sets before 0 (length (faces r) ∷ n r ∷ faces_words r t)
-  faces_stored before {after} excess-is resistance-is stored = (rw (excess-is, resistance-is) at stored) ∙ ap (sets before 0) words_are
+  faces_stored before {after} excess_is resistance_is stored = (rw (excess_is, resistance_is) at stored) ∙ ap (sets before 0) words_are
 
 -- how many words there are, and where they go
 module _ (r after : Record) (t : ℕ) where
@@ -73,19 +73,19 @@ module _ (r after : Record) (t : ℕ) where
   unfolding faces_words
   heads_length = omega (arith, faces_length t (faces r))
 
-  elements-length : length (elements_words r after) ≡ 9 * n r
+  elements_length : length (elements_words r after) ≡ 9 * n r
   unfolding elements_words
-  elements-length = length-appended 9 (n r) (element_in r after) (λ j h. refl)
+  elements_length = length-appended 9 (n r) (element_in r after) (λ j h. refl)
 
-  pub words-length : length (words_between r after t) ≡ 2 + 4 * length (faces r) + 9 * n r
+  pub words_length : length (words_between r after t) ≡ 2 + 4 * length (faces r) + 9 * n r
   unfolding words_between
-  words-length =
-      length-append (length (faces r) ∷ n r ∷ faces_words r t) (elements_words r after) ∙ rw (heads_length, elements-length) refl
+  words_length =
+      length-append (length (faces r) ∷ n r ∷ faces_words r t) (elements_words r after) ∙ rw (heads_length, elements_length) refl
 
-  pub words-stored : (before : List ℕ) {between out : List ℕ} {count : ℕ} → count ≡ length (faces r) →
+  pub words_stored : (before : List ℕ) {between out : List ℕ} {count : ℕ} → count ≡ length (faces r) →
       between ≡ sets before 0 (length (faces r) ∷ n r ∷ faces_words r t) → out ≡ sets between (2 + 4 * count) (elements_words r after) →
       2 + 4 * length (faces r) + 9 * n r ≤ length before → out ≡ overlaid (words_between r after t) before
   unfolding words_between
-  words-stored before count-is first second room =
+  words_stored before count-is first second room =
       sets_then before 0 (length (faces r) ∷ n r ∷ faces_words r t) (elements_words r after) first (omega (arith, heads_length, count-is)) second ∙
-      sets_front before (words_between r after t) (rw words-length room)
+      sets_front before (words_between r after t) (rw words_length room)

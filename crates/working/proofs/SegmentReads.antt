@@ -20,21 +20,21 @@ use Rattle.working.specs.Segments.{SegmentDivides, ReadingDivides}
 use Rattle.working.specs.Working.{curve_reading}
 
 -- a value on the curve
-pub on-is : (v : CurveValue) → is_on v ≡ true → v ≡ On (value_of v)
+pub on_is : (v : CurveValue) → is_on v ≡ true → v ≡ On (value_of v)
 unfolding is_on value_of
-on-is (On y) e = refl
-on-is Off e = absurd (passed e)
+on_is (On y) e = refl
+on_is Off e = absurd (passed e)
 
 -- segment i of a curve is the one that is read at x
 pub record SegmentRead (curve : List Point) (x i : ℕ) (d : Point) : Type 0 where
   pub spanned : T (spans (get_or curve i d) (get_or curve (suc i) d) x)
   pub leaves : curve_remainder curve x ≡ interpolation_remainder (get_or curve i d) (get_or curve (suc i) d) x
 
-pub segment-read : (curve : List Point) (x : ℕ) (d : Point) → T (is_on (curve_at curve x)) → SegmentRead curve x (segment_at curve x) d
+pub segment_read : (curve : List Point) (x : ℕ) (d : Point) → T (is_on (curve_at curve x)) → SegmentRead curve x (segment_at curve x) d
 unfolding curve_at is_on segment_at curve_remainder
-segment-read [] x d on = absurd on
-segment-read (a ∷ []) x d on = absurd on
-segment-read (a ∷ b ∷ rest) x d on = go (segment-read (b ∷ rest) x d) (spans a b x) refl
+segment_read [] x d on = absurd on
+segment_read (a ∷ []) x d on = absurd on
+segment_read (a ∷ b ∷ rest) x d on = go (segment_read (b ∷ rest) x d) (spans a b x) refl
   where
     here : spans a b x ≡ true → SegmentRead (a ∷ b ∷ rest) x (segment_at (a ∷ b ∷ rest) x) d
     here e =
@@ -70,13 +70,13 @@ module _ (n : ℕ) (xs ys : List ℕ) (x i : ℕ) (two : i + 1 < n) (found : i �
   second_point = rw (← add-one i) (get_or-tabulate n (at n xs ys) (i + 1) d two)
 
   read_there : SegmentRead (points n xs ys) x i d
-  read_there = rw found (segment-read (points n xs ys) x d (passed on))
+  read_there = rw found (segment_read (points n xs ys) x d (passed on))
 
-  pub segment-spans : spans (at n xs ys i) (at n xs ys (i + 1)) x ≡ true
-  segment-spans = is_true _ (rw (first_point, second_point) at read_there.spanned)
+  pub segment_spans : spans (at n xs ys i) (at n xs ys (i + 1)) x ≡ true
+  segment_spans = is_true _ (rw (first_point, second_point) at read_there.spanned)
 
-  pub segment-leaves : interpolation_remainder (at n xs ys i) (at n xs ys (i + 1)) x ≡ curve_remainder (points n xs ys) x
-  segment-leaves = sym (rw (first_point, second_point) at read_there.leaves)
+  pub segment_leaves : interpolation_remainder (at n xs ys i) (at n xs ys (i + 1)) x ≡ curve_remainder (points n xs ys) x
+  segment_leaves = sym (rw (first_point, second_point) at read_there.leaves)
 
 -- a reading by its parts
 pub reading_is : (curve : List Point) (x : ℕ) {i value remainder : ℕ} → i ≡ segment_at curve x → value ≡ value_of (curve_at curve x) →

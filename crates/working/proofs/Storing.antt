@@ -47,11 +47,11 @@ pub headed : (out words : List ℕ) (a b : ℕ) {count : ℕ} {last : List ℕ} 
 headed out words a b count-is last-is = rw (← count-is) last-is
 
 -- an element's nine words
-pub element-stored : (soil : Soil) (S W after at : ℕ) (out : List ℕ) {E : ℕ} {stress conductivity : CurveReading} {a b c : List ℕ} →
+pub element_stored : (soil : Soil) (S W after at : ℕ) (out : List ℕ) {E : ℕ} {stress conductivity : CurveReading} {a b c : List ℕ} →
     E ≡ void_ratio S W → stress ≡ curve_reading (compressibility_points soil) E → conductivity ≡ curve_reading (conductivity_points soil) E →
     a ≡ sets out at (W ∷ after ∷ E ∷ []) → b ≡ sets a (at + 3) (reading_words stress) → c ≡ sets b (at + 6) (reading_words conductivity) →
     c ≡ sets out at (element_words soil S W after)
-element-stored soil S W after at out {E} {stress} {conductivity} {a} ratio read passed first second third =
+element_stored soil S W after at out {E} {stress} {conductivity} {a} ratio read passed first second third =
     sets_then out at (W ∷ after ∷ E ∷ []) (reading_words stress ++ reading_words conductivity) first refl
     (sets_then a (at + 3) (reading_words stress) (reading_words conductivity) second (omega arith) third) ∙
     rw (read, passed, ratio) refl
@@ -79,5 +79,5 @@ module _ (width : ℕ) (f : ℕ → List ℕ) (wide : (i : ℕ) → length (f i)
       refl
 
   -- all of them
-  pub stored-all : (i n : ℕ) {out : List ℕ} → out ≡ stored_first i → i ≡ n → out ≡ stored_first n
-  stored-all i n e end = rw (← end) e
+  pub stored_all : (i n : ℕ) {out : List ℕ} → out ≡ stored_first i → i ≡ n → out ≡ stored_first n
+  stored_all i n e end = rw (← end) e

@@ -58,13 +58,13 @@ module _ (d : Description) where
     bottom_level = (job_site d).bottom_level;
   }
 
-  pub given-kept : given_water (up_to_counts d) ≡ given_water d
+  pub given_kept : given_water (up_to_counts d) ≡ given_water d
   unfolding up_to_counts given_water
-  given-kept = places_kept 128 d.header.elements d.water
+  given_kept = places_kept 128 d.header.elements d.water
 
-  pub bytes-kept : job_bytes (up_to_counts d) ≡ job_bytes d
+  pub bytes_kept : job_bytes (up_to_counts d) ≡ job_bytes d
   unfolding up_to_counts job_bytes
-  bytes-kept = λ i.
+  bytes_kept = λ i.
       header_bytes d.header ++ pairs_kept 128 d.header.elements d.solids d.water i ++
       pairs_kept 64 d.header.compressibility_points d.compressibility_stress d.compressibility_void i ++
       pairs_kept 64 d.header.conductivity_points d.conductivity_void d.conductivity i ++
@@ -146,15 +146,15 @@ module _ (d e : Description) (header : e.header ≡ d.header) (site : job_site e
 
 -- so what is said of a description is said of it up to its counts
 module _ (d : Description) where
-  kept-header : (up_to_counts d).header ≡ d.header
+  kept_header : (up_to_counts d).header ≡ d.header
   unfolding up_to_counts
-  kept-header = refl
+  kept_header = refl
 
   pub causes_kept : layer_causes (up_to_counts d) ≡ layer_causes d
-  causes_kept = causes_alike d (up_to_counts d) (kept-header) (site_kept d) (given-kept d)
+  causes_kept = causes_alike d (up_to_counts d) (kept_header) (site_kept d) (given_kept d)
 
-  pub started-kept : started (up_to_counts d) ≡ started d
-  started-kept = started_alike d (up_to_counts d) (kept-header) (site_kept d) (given-kept d)
+  pub started_kept : started (up_to_counts d) ≡ started d
+  started_kept = started_alike d (up_to_counts d) (kept_header) (site_kept d) (given_kept d)
 
-  pub accepted-kept : accepted (up_to_counts d) ≡ accepted d
-  accepted-kept = accepted_alike d (up_to_counts d) (kept-header) (site_kept d) (given-kept d)
+  pub accepted_kept : accepted (up_to_counts d) ≡ accepted d
+  accepted_kept = accepted_alike d (up_to_counts d) (kept_header) (site_kept d) (given_kept d)

@@ -10,8 +10,8 @@ use Rattle.numbers.specs.Arrays.{zeros}
 use Rattle.numbers.specs.Bytes.{number, field, column}
 use Rattle.numbers.proofs.Appended.{field-appended}
 use Rattle.numbers.proofs.Filled.{filled_cong}
-use Rattle.numbers.proofs.LittleEndian.{field_front, field_past, number-bytes_lt}
-use Rattle.laws.proofs.SoundHeader.{kept-header}
+use Rattle.numbers.proofs.LittleEndian.{field_front, field_past, number_bytes_lt}
+use Rattle.laws.proofs.SoundHeader.{kept_header}
 use Rattle.rules.specs.Job.{described, firsts, header_sound, marked, pair_length, seconds}
 use Rattle.rules.specs.declared.job.Header.{Header}
 use Rattle.writer.specs.RoundTrips.{up_to}
@@ -46,32 +46,32 @@ module _ (h : Header) (rest : List ℕ) where
       (described written).header ≡ h
   unfolding header_bytes described
   header_again kept top bottom end budget =
-      let s = kept-header h kept in
-      let byte = number-bytes_lt 1 in
+      let s = kept_header h kept in
+      let byte = number_bytes_lt 1 in
       λ i. record {
         top = byte h.top (omega (arith, s.top_kept.most)) i;
-        bottom = byte h.bottom (omega (arith, s.bottom-kept.most)) i;
-        elements = byte h.elements (omega (arith, s.elements-kept.most)) i;
-        compressibility_points = byte h.compressibility_points (omega (arith, s.compressibility-kept.most)) i;
-        conductivity_points = byte h.conductivity_points (omega (arith, s.conductivity-kept.most)) i;
+        bottom = byte h.bottom (omega (arith, s.bottom_kept.most)) i;
+        elements = byte h.elements (omega (arith, s.elements_kept.most)) i;
+        compressibility_points = byte h.compressibility_points (omega (arith, s.compressibility_kept.most)) i;
+        conductivity_points = byte h.conductivity_points (omega (arith, s.conductivity_kept.most)) i;
         table_points = byte h.table_points (omega (arith, s.table_kept.most)) i;
         start = byte h.start (omega (arith, s.start_kept.most)) i;
-        gravity = number-bytes_lt 2 h.gravity (omega (arith, s.gravity-kept.most)) i;
-        top_level = number-bytes_lt 8 h.top_level top i;
-        bottom_level = number-bytes_lt 8 h.bottom_level bottom i;
-        end = number-bytes_lt 8 h.end end i;
-        budget = number-bytes_lt 8 h.budget budget i;
+        gravity = number_bytes_lt 2 h.gravity (omega (arith, s.gravity_kept.most)) i;
+        top_level = number_bytes_lt 8 h.top_level top i;
+        bottom_level = number_bytes_lt 8 h.bottom_level bottom i;
+        end = number_bytes_lt 8 h.end end i;
+        budget = number_bytes_lt 8 h.budget budget i;
       }
 
 -- ---- pairs, wherever they stand
 
 pair_first : (first second : ℕ) → InWord first → field 8 0 (pair_bytes first second) ≡ first
 unfolding pair_bytes field number
-pair_first first second h = number-bytes_lt 8 first h
+pair_first first second h = number_bytes_lt 8 first h
 
 pair_second : (first second : ℕ) → InWord second → field 8 8 (pair_bytes first second) ≡ second
 unfolding pair_bytes field number
-pair_second first second h = number-bytes_lt 8 second h
+pair_second first second h = number_bytes_lt 8 second h
 
 module _ (before after : List ℕ) (offset n : ℕ) (xs ys : List ℕ) (begins : length before ≡ offset) where
   abbrev job : List ℕ

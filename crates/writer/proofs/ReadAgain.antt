@@ -7,13 +7,13 @@ use mathlib.Core.Bool.{true, false}
 use mathlib.Core.List.{List, [], ◌++◌, append_assoc, append-nil}
 use mathlib.Core.Option.{none}
 use mathlib.Core.Path.{◌≡◌, refl, sym, ap, ◌∙◌}
-use Rattle.acceptance.proofs.AcceptingLaws.{accepted_none, header-within, unstarted_accepts, refused-accepted}
+use Rattle.acceptance.proofs.AcceptingLaws.{accepted_none, header_within, unstarted_accepts, refused-accepted}
 use Rattle.acceptance.proofs.SoundDescription.{fields, heights_kept, levels_kept}
 use Rattle.claims.proofs.Starts.{started_parts}
 use Rattle.description.proofs.Checking.{none_tests}
 use Rattle.job.specs.Framing.{framing}
 use Rattle.job.specs.declared.framing.Framed.TheVariants.{Sound}
-use Rattle.job.proofs.FramingLaws.{all-passed, framed_rest, is_short, is_other, is_outside, is_wrong}
+use Rattle.job.proofs.FramingLaws.{all_passed, framed_rest, is_short, is_other, is_outside, is_wrong}
 use Rattle.numbers.specs.Bytes.{field}
 use Rattle.rules.proofs.Sound.{compressible, conductive}
 use Rattle.rules.specs.Job.{Description, described, described_causes, header_length, header_sound, job_causes, job_length, job_site, marked, pair_length}
@@ -28,10 +28,10 @@ use Rattle.rules.specs.declared.record.Progress.{Progress}
 use Rattle.table.proofs.Laws.{tabled}
 use Rattle.writer.specs.RoundTrips.{ReadAgain, up_to_counts}
 use Rattle.writer.specs.Writing.{header_bytes, job_bytes, pairs_bytes}
-use Rattle.writer.proofs.Counted.{causes_kept, started-kept}
+use Rattle.writer.proofs.Counted.{causes_kept, started_kept}
 use Rattle.writer.proofs.Fields.{header_again, marked_again, pairs_again, unused_again, version_again}
-use Rattle.writer.proofs.Stores.{compressibility-length, conductivity-length, elements-length, header-length, job_length_lem, through_compressibility, through_conductivity, through_elements}
-use Rattle.writer.proofs.WritingLaws.{accepted-header}
+use Rattle.writer.proofs.Stores.{compressibility_length, conductivity_length, elements_length, header_length_lem, job_length_lem, through_compressibility, through_conductivity, through_elements}
+use Rattle.writer.proofs.WritingLaws.{accepted_header}
 
 module _ (d : Description) {frame : Frame} {progress : Progress} (is : accepted d ≡ Accepted frame progress) where
   abbrev h : Header
@@ -43,13 +43,13 @@ module _ (d : Description) {frame : Frame} {progress : Progress} (is : accepted 
   -- ---- each of its numbers fits eight bytes
 
   sound_header : header_sound h ≡ true
-  sound_header = accepted-header d is
+  sound_header = accepted_header d is
 
   no_cause : first_cause (layer_causes d) ≡ none
   no_cause = accepted_none d frame progress is
 
   sound : first_cause (described_causes d) ≡ none
-  sound = sym (header-within d sound_header) ∙ no_cause
+  sound = sym (header_within d sound_header) ∙ no_cause
 
   -- ---- its parts
 
@@ -131,16 +131,16 @@ module _ (d : Description) {frame : Frame} {progress : Progress} (is : accepted 
       let conducted = conductive h.conductivity_points d.conductivity_void d.conductivity _ tests.2 in
       let loads = tabled h.table_points d.table_time d.table_load tests.3 in
       let elements =
-      pairs_again (header_bytes h) _ _ _ d.solids d.water (header-length h) 128 by_elements refl elements_are
+      pairs_again (header_bytes h) _ _ _ d.solids d.water (header_length_lem h) 128 by_elements refl elements_are
       (λ i k. (omega (arith, (heights i k).1), omega (arith, (heights i k).2))) in
       let compressibility =
-      pairs_again (through_elements d) _ _ _ d.compressibility_stress d.compressibility_void (elements-length d) 64 by_compressibility compressibility_at compressibility_are
+      pairs_again (through_elements d) _ _ _ d.compressibility_stress d.compressibility_void (elements_length d) 64 by_compressibility compressibility_at compressibility_are
       (λ i k. (omega (arith, compressed.stress_high i k), omega (arith, compressed.void_high i k))) in
       let conductivity =
-      pairs_again (through_compressibility d) _ _ _ d.conductivity_void d.conductivity (compressibility-length d) 64 by_conductivity conductivity_at conductivity_are
+      pairs_again (through_compressibility d) _ _ _ d.conductivity_void d.conductivity (compressibility_length d) 64 by_conductivity conductivity_at conductivity_are
       (λ i k. (omega (arith, conducted.void_high i k), omega (arith, conducted.conductivity_high i k))) in
       let table =
-      pairs_again (through_conductivity d) _ _ _ d.table_time d.table_load (conductivity-length d) 64 by_table table_at_lem table_are
+      pairs_again (through_conductivity d) _ _ _ d.table_time d.table_load (conductivity_length d) 64 by_table table_at_lem table_are
       (λ i k. (omega (arith, loads.time_high i k), omega (arith, loads.load_high i k))) in
       λ i. record {
         header = header_is i;
@@ -158,7 +158,7 @@ module _ (d : Description) {frame : Frame} {progress : Progress} (is : accepted 
 
   frames : framing job ≡ Sound (described job).header
   unfolding job_length
-  frames = all-passed job short other outside wrong
+  frames = all_passed job short other outside wrong
     where
       short : is_short job ≡ false
       short = rw (le-ltb (length job) header_length (omega (arith, job_length_lem d)), ap marked by_header ∙ marked_again h rest)
@@ -176,7 +176,7 @@ module _ (d : Description) {frame : Frame} {progress : Progress} (is : accepted 
   unfolding up_to_counts
   none_holds =
       framed_rest job (described job).header frames ∙ ap (λ (e : Description). first_cause (described_causes e)) described_again ∙
-      sym (header-within (up_to_counts d) sound_header) ∙ ap first_cause (causes_kept d) ∙ no_cause
+      sym (header_within (up_to_counts d) sound_header) ∙ ap first_cause (causes_kept d) ∙ no_cause
 
   -- ---- so they are opened with the water of the description's start
 
@@ -189,7 +189,7 @@ module _ (d : Description) {frame : Frame} {progress : Progress} (is : accepted 
 
   opens : (water : List ℕ) → started d ≡ started_with water → opening job ≡ record { answer = Done; after = opened_record (described job) water }
   unfolding opening
-  opens water e = rw (none_holds, ap started described_again ∙ started-kept d ∙ e, opening)
+  opens water e = rw (none_holds, ap started described_again ∙ started_kept d ∙ e, opening)
 
   pub read_again : ReadAgain d job
   read_again =

@@ -22,7 +22,7 @@ use Rattle.rules.specs.declared.record.Progress.{Progress}
 use Rattle.writer.specs.RoundTrips.{ReadAgain, RoundTrips, up_to_counts}
 use Rattle.writer.specs.Writing.{Writing, job_bytes, refused_writing, writing}
 use Rattle.writer.specs.declared.Written.TheVariants.{Length, Refused}
-use Rattle.writer.proofs.Counted.{accepted-kept, bytes-kept, described_counted}
+use Rattle.writer.proofs.Counted.{accepted_kept, bytes_kept, described_counted}
 use Rattle.writer.proofs.ReadAgain.{read_again}
 use Rattle.writer.proofs.Stores.{job_length_lem}
 use Rattle.writer.proofs.WritingLaws.{cause_writes, room_writes, short_writes}
@@ -63,8 +63,8 @@ module _ (d : Description) (before : List ℕ) where
   writes job are done alike room =
       let same = described_counted job ∙ alike in
       let (frame, progress, again) = accepted_again job are done in
-      let is : accepted d ≡ acceptance.Accepted frame progress = sym (accepted-kept d) ∙ ap accepted (sym same) ∙ again in
-      let bytes_are : job_bytes d ≡ job = sym (bytes-kept d) ∙ ap job_bytes (sym same) ∙ written_again job are done in
+      let is : accepted d ≡ acceptance.Accepted frame progress = sym (accepted_kept d) ∙ ap accepted (sym same) ∙ again in
+      let bytes_are : job_bytes d ≡ job = sym (bytes_kept d) ∙ ap job_bytes (sym same) ∙ written_again job are done in
       let sized : job_length d.header ≡ length job = sym (job_length_lem d) ∙ ap length bytes_are in
       let whole = room_writes d before is (omega arith) in
       (ap (λ (x : Writing). x.answer) whole ∙ ap Length sized, ap (λ (x : Writing). x.buffer) whole ∙ ap (λ (l : List ℕ). overlaid l before) bytes_are)
@@ -76,5 +76,5 @@ module _ (d : Description) (before : List ℕ) where
 pub rewritten : (job buffer : List ℕ) → AreBytes job → (opening job).answer ≡ Done → length job ≤ length buffer →
     writing (described job) buffer ≡ record { answer = Length (length job); buffer = overlaid job buffer }
 rewritten job buffer are done room =
-    let (answer-is, buffer-is) = writes (described job) buffer job are done refl room in
-    λ i. record { answer = answer-is i; buffer = buffer-is i }
+    let (answer-is, buffer_is) = writes (described job) buffer job are done refl room in
+    λ i. record { answer = answer-is i; buffer = buffer_is i }

@@ -17,9 +17,9 @@ use Rattle.rules.specs.declared.job.Header.{Header}
 use Rattle.writer.specs.Writing.{header_bytes, pair_bytes, pairs_bytes, job_bytes}
 
 -- a header's length, and a pair's
-pub header-length : (h : Header) → length (header_bytes h) ≡ header_length
+pub header_length_lem : (h : Header) → length (header_bytes h) ≡ header_length
 unfolding header_bytes bytes
-header-length h = refl
+header_length_lem h = refl
 
 pub pair-length : (first second : ℕ) → length (pair_bytes first second) ≡ pair_length
 unfolding pair_bytes bytes
@@ -73,18 +73,18 @@ module _ (d : Description) where
   table_at = conductivity_at + pair_length * d.header.conductivity_points
 
   -- where each begins
-  pub elements-length : length through_elements ≡ compressibility_at
-  elements-length = simp (length-append, header-length, pairs_length)
+  pub elements_length : length through_elements ≡ compressibility_at
+  elements_length = simp (length-append, header_length_lem, pairs_length)
 
-  pub compressibility-length : length through_compressibility ≡ conductivity_at
-  compressibility-length = simp (length-append, header-length, pairs_length)
+  pub compressibility_length : length through_compressibility ≡ conductivity_at
+  compressibility_length = simp (length-append, header_length_lem, pairs_length)
 
-  pub conductivity-length : length through_conductivity ≡ table_at
-  conductivity-length = simp (length-append, header-length, pairs_length)
+  pub conductivity_length : length through_conductivity ≡ table_at
+  conductivity_length = simp (length-append, header_length_lem, pairs_length)
 
   pub job_length_lem : length (job_bytes d) ≡ job_length d.header
   unfolding job_bytes job_length
-  job_length_lem = simp (length-append, header-length, pairs_length) (omega arith)
+  job_length_lem = simp (length-append, header_length_lem, pairs_length) (omega arith)
 
   -- all its parts are stored, one after the other
   pub job_stored : (l : List ℕ) {headed first second third fourth : List ℕ} → headed ≡ sets l 0 (header_bytes d.header) →
@@ -98,7 +98,7 @@ module _ (d : Description) where
       sets_then l 0 through_conductivity (pairs_bytes d.header.table_points d.table_time d.table_load)
       (sets_then l 0 through_compressibility (pairs_bytes d.header.conductivity_points d.conductivity_void d.conductivity)
       (sets_then l 0 through_elements (pairs_bytes d.header.compressibility_points d.compressibility_stress d.compressibility_void)
-      (sets_then l 0 (header_bytes d.header) (pairs_bytes d.header.elements d.solids d.water) header (zero-add _ ∙ header-length d.header) elements)
-      (zero-add _ ∙ elements-length) compressibility) (zero-add _ ∙ compressibility-length) conductivity)
-      (zero-add _ ∙ conductivity-length) table ∙
+      (sets_then l 0 (header_bytes d.header) (pairs_bytes d.header.elements d.solids d.water) header (zero-add _ ∙ header_length_lem d.header) elements)
+      (zero-add _ ∙ elements_length) compressibility) (zero-add _ ∙ compressibility_length) conductivity)
+      (zero-add _ ∙ conductivity_length) table ∙
       sets_front l (job_bytes d) (rw job_length_lem room)

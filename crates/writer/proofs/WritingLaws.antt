@@ -38,8 +38,8 @@ module _ (d : Description) (buffer : List ℕ) where
     room_writes h = rw (e, writing, le-ltb (length buffer) (job_length d.header) h)
 
 -- the header of an accepted description keeps its limits
-pub accepted-header : (d : Description) {frame : Frame} {progress : Progress} → accepted d ≡ Accepted frame progress → header_sound d.header ≡ true
-accepted-header d {frame} {progress} e = go (header_sound d.header) refl
+pub accepted_header : (d : Description) {frame : Frame} {progress : Progress} → accepted d ≡ Accepted frame progress → header_sound d.header ≡ true
+accepted_header d {frame} {progress} e = go (header_sound d.header) refl
   where
     go : (kept : Bool) → header_sound d.header ≡ kept → header_sound d.header ≡ true
     go true k = k

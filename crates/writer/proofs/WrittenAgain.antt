@@ -7,7 +7,7 @@ use lib.Seq.{drop-drop, take-add, take_all}
 use mathlib.Core.Bool.{true, ◌&&◌}
 use mathlib.Core.List.{List, [], ◌∷◌, ◌++◌}
 use mathlib.Core.Path.{◌≡◌, sym, ap, ◌∙◌}
-use Rattle.acceptance.proofs.AcceptingLaws.{header-within, start_accepts}
+use Rattle.acceptance.proofs.AcceptingLaws.{header_within, start_accepts}
 use Rattle.claims.proofs.Opened.{opened}
 use Rattle.claims.proofs.Starts.{steady-started}
 use Rattle.job.specs.Framing.{framing}
@@ -86,9 +86,9 @@ module _ (job : List ℕ) (are : AreBytes job) where
     there : header_length ≤ length job
     there = long job (tests job h framed).0
 
-    header-written : header_bytes h ≡ take header_length job
+    header_written : header_bytes h ≡ take header_length job
     unfolding header_bytes described
-    header-written =
+    header_written =
         let (short, other, outside, wrong, same) = tests job h framed in
         let part : (size offset : ℕ) → offset + size ≤ header_length → bytes size (field size offset job) ≡ take size (drop offset job) =
         λ size offset fits. bytes-field size offset job are (omega (arith, there)) in
@@ -120,7 +120,7 @@ module _ (job : List ℕ) (are : AreBytes job) where
         let compressibility_at = header_length + pair_length * n in
         let conductivity_at = compressibility_at + pair_length * m in
         let table_at = conductivity_at + pair_length * k in
-        let elements = joined header_length (pair_length * n) job header-written (pairs_written 128 header_length n (omega (arith, sized))) in
+        let elements = joined header_length (pair_length * n) job header_written (pairs_written 128 header_length n (omega (arith, sized))) in
         let compressibility =
         joined compressibility_at (pair_length * m) job elements (pairs_written 64 compressibility_at m (omega (arith, sized))) in
         let conductivity =
@@ -132,5 +132,5 @@ module _ (job : List ℕ) (are : AreBytes job) where
     pub accepted_again : (frame : Frame) × (progress : Progress) × (accepted d ≡ Accepted frame progress)
     accepted_again =
         let o = opened job done in
-        let None-first = header-within d (framed_kept job h framed) ∙ sym (framed_rest job h framed) ∙ o.no_cause in
+        let None-first = header_within d (framed_kept job h framed) ∙ sym (framed_rest job h framed) ∙ o.no_cause in
         (_, _, sym (start_accepts d None-first o.water (steady-started d o.water o.starts o.steadied)).answers)

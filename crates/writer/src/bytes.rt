@@ -78,10 +78,8 @@ pub fn write_bytes<'a>(
     table_load: &'a [u64; 64],
     out: &mut [u8],
 )
-    ghost d: { Description }
-    requires table_load_value { description_of header void.now stress.now conductivity_void.now conductivity.now solids.now water.now table_time.now table_load.now ≡ d }
     requires header_value { (header_sound header ≡ true) × (job_length header ≤ length out.old) }
-    ensures { out.new ≡ overlaid (job_bytes d) out.old }
+    ensures { let d : Description = description_of header void.now stress.now conductivity_void.now conductivity.now solids.now water.now table_time.now table_load.now in out.new ≡ overlaid (job_bytes d) out.old }
 {
     let elements = header.elements;
     let compressibility_points = header.compressibility_points;

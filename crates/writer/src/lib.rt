@@ -36,13 +36,11 @@ pub fn write_job<'a>(
     table_load: &'a [u64; 64],
     out: &mut [u8],
 ) -> Written
-    ghost d: { Description }
-    requires table_load_value { description_of header void.now stress.now conductivity_void.now conductivity.now solids.now water.now table_time.now table_load.now ≡ d }
     requires water_len { length water.now ≡ 128 }
-    ensures value { result ≡ (writing d out.old).answer }
-    ensures out_after { out.new ≡ (writing d out.old).buffer }
-    ensures result_value { written_number result ≡ writing_number d out.old }
-    ensures round_trips { RoundTrips d out.old result out.new }
+    ensures value { let d : Description = description_of header void.now stress.now conductivity_void.now conductivity.now solids.now water.now table_time.now table_load.now in result ≡ (writing d out.old).answer }
+    ensures out_after { let d : Description = description_of header void.now stress.now conductivity_void.now conductivity.now solids.now water.now table_time.now table_load.now in out.new ≡ (writing d out.old).buffer }
+    ensures result_value { let d : Description = description_of header void.now stress.now conductivity_void.now conductivity.now solids.now water.now table_time.now table_load.now in written_number result ≡ writing_number d out.old }
+    ensures round_trips { let d : Description = description_of header void.now stress.now conductivity_void.now conductivity.now solids.now water.now table_time.now table_load.now in RoundTrips d out.old result out.new }
 {
     let mut started = *water;
     let mut burden = [0; 128];

@@ -19,8 +19,8 @@ module _ (c : lts.Start reads.Pre reads.Post tie.handed_clauses) where
   load_fits : SFits w64 c.args.load.0
   load_fits = within_fits tt c.requires.within
 
-  burden-is : to_z w64 c.args.burden ≡ pos c.args.burden
-  burden-is = read_unsigned c.args.burden (omega arith)
+  burden_is : to_z w64 c.args.burden ≡ pos c.args.burden
+  burden_is = read_unsigned c.args.burden (omega arith)
 
   stress-is : to_z w64 c.args.stress ≡ pos c.args.stress
   stress-is = read_unsigned c.args.stress (omega arith)
@@ -35,10 +35,10 @@ module _ (c : lts.Start reads.Pre reads.Post tie.handed_clauses) where
   excess-fits = within_fits {n = stress_limits.most + most_burden + stress_limits.most} tt (within-sub total (within_le {n = stress_limits.most} (within_pos c.args.stress) (omega arith)))
 
 pub overflow_add-excess : goal.overflow_add-excess
-overflow_add-excess c = let s = c.before.before in simp (read_back (load_fits s), burden-is s) (total-fits s)
+overflow_add-excess c = let s = c.before.before in simp (read_back (load_fits s), burden_is s) (total-fits s)
 
 pub overflow_sub-excess : goal.overflow_sub-excess
-overflow_sub-excess c = let s = c.before.before in simp (read_back (load_fits s), burden-is s, stress-is s, read_back (total-fits s)) (excess-fits s)
+overflow_sub-excess c = let s = c.before.before in simp (read_back (load_fits s), burden_is s, stress-is s, read_back (total-fits s)) (excess-fits s)
 
 pub returns : goal.returns
-returns c = let s = c.before.before in simp (read_back (load_fits s), burden-is s, stress-is s, read_back (total-fits s), read_back (excess-fits s))
+returns c = let s = c.before.before in simp (read_back (load_fits s), burden_is s, stress-is s, read_back (total-fits s), read_back (excess-fits s))

@@ -20,8 +20,8 @@ module _ (c : lts.Start tie.the-claims reads.Pre reads.Post tie.handed_clauses) 
   t-is : to_z w64 c.args.t ≡ pos c.args.t
   t-is = read_unsigned c.args.t (omega arith)
 
-  resistance-is : to_z w64 c.args.resistance ≡ pos c.args.resistance
-  resistance-is = read_unsigned c.args.resistance (omega arith)
+  resistance_is : to_z w64 c.args.resistance ≡ pos c.args.resistance
+  resistance_is = read_unsigned c.args.resistance (omega arith)
 
   product : Within (c.args.difference *ℤ pos c.args.t) most_flow
   product = within-mul c.requires.within (within_le {n = step_limits.most} (within_pos c.args.t) (omega arith))
@@ -34,12 +34,12 @@ overflow_mul-difference c = simp (read_back c.ranges.difference, t-is c) (produc
 
 pub remainder-requires : goal.remainder-requires
 remainder-requires c =
-    simp (read_back c.ranges.difference, t-is c, read_back (product-fits c), resistance-is c)
+    simp (read_back c.ranges.difference, t-is c, read_back (product-fits c), resistance_is c)
     (omega signed, within_le (product c) (lit≤ tt))
 
 pub returns : goal.returns
 returns c =
     let s = c.before in
     let is : Left (s.args.difference *ℤ pos s.args.t) s.args.resistance c.remainder.result =
-    simp (read_back s.ranges.difference, t-is s, read_back (product-fits s), resistance-is s) at c.remainder.ensures in
+    simp (read_back s.ranges.difference, t-is s, read_back (product-fits s), resistance_is s) at c.remainder.ensures in
     rw (read_back {z = c.remainder.result} (record { sfits = c.remainder.type_inv })) is

@@ -6,7 +6,7 @@ use Rattle.laws.specs.Most.{most_face_resistance, most_sensitivity}
 use Rattle.laws.specs.Shorten.{shortened}
 use Rattle.element.specs.Elements.{elements_in}
 use Rattle.step_length.specs.Reach.{Limited, longest_within}
-use Rattle.step_length.proofs.ReachAt.{longest-is, from_bottom, at_inner, at_top}
+use Rattle.step_length.proofs.ReachAt.{longest_is, from_bottom, at_inner, at_top}
 use Rattle.quantities.specs.Quantities.{stress_limits, step_limits}
 use Rattle.rules.specs.Step.{contacts_above}
 use native.Mathlib.Omega.{arith}
@@ -25,7 +25,7 @@ ranges : (s : lts.Start tie.the-claims reads.Pre reads.Post goal.the-invariant-l
     (get_or s.args.resistance.now j 0 ≤ most_face_resistance)))
 ranges s t j short h =
     let of = limited s in
-    (short, (s.requires.steepness_nonzero, ((of.sensitivity_positive j h, of.sensitivity-most j h), omega (arith, of.resistance-most j h))))
+    (short, (s.requires.steepness_nonzero, ((of.sensitivity_positive j h, of.sensitivity_most j h), omega (arith, of.resistance_most j h))))
 
 -- the step shortened for the bottom, then for all above it, is the longest
 first : (f : lts.After-shorten_outer tie.the-claims reads.Pre reads.Post goal.the-invariant-loop-j goal.the-decreases-loop-j tie.handed_clauses) →
@@ -37,7 +37,7 @@ first f =
     let s = f.before.before.before.before.before in
     ap (λ (t : ℕ). shortened s.args.steepness t (contacts_above s.args.top (drop 0 (elements_in s.args.elements [] s.args.resistance.now s.args.sensitivity.now)))) f.shorten_outer-t.ensures.0 ∙
     sym (from_bottom _ _ _ s.requires.steepness_nonzero.0 _ _ _ (limited s) s.requires.elements_nonzero.0 s.args.most) ∙
-    sym (longest-is _ _ _ s.requires.steepness_nonzero.0 _ _ _ (limited s) s.args.most)
+    sym (longest_is _ _ _ s.requires.steepness_nonzero.0 _ _ _ (limited s) s.args.most)
 
 module _ (l : lts.At-loop tie.the-claims reads.Pre reads.Post goal.the-invariant-loop-j goal.the-decreases-loop-j tie.handed_clauses) where
   abbrev s : lts.Start tie.the-claims reads.Pre reads.Post goal.the-invariant-loop-j goal.the-decreases-loop-j tie.handed_clauses
@@ -50,7 +50,7 @@ module _ (l : lts.At-loop tie.the-claims reads.Pre reads.Post goal.the-invariant
   r i = get_or s.args.resistance.now i 0
 
   sum-most : j + 1 < s.args.elements → r j + r (j + 1) ≤ most_face_resistance
-  sum-most h = omega (arith, (limited s).resistance-most j (omega arith), (limited s).resistance-most (j + 1) h)
+  sum-most h = omega (arith, (limited s).resistance_most j (omega arith), (limited s).resistance_most (j + 1) h)
 
 pub shorten_outer-t-requires : goal.shorten_outer-t-requires
 shorten_outer-t-requires c = let t = let s = c.before.before.before.before.before in ranges s s.args.most 0 s.requires.most_le_most s.requires.elements_nonzero.0 in record {
@@ -72,8 +72,8 @@ shorten_inner-t-requires c = let l = c.before.before.before.before.before.before
     let j = l.loop-j.j in record {
       t_le_most = l.loop-j.invariant.1;
       steepness_nonzero = (s l).requires.steepness_nonzero;
-      below_nonzero = (of.sensitivity_positive j (omega arith), of.sensitivity-most j (omega arith));
-      above_nonzero = (of.sensitivity_positive (j + 1) (omega arith), of.sensitivity-most (j + 1) (omega arith));
+      below_nonzero = (of.sensitivity_positive j (omega arith), of.sensitivity_most j (omega arith));
+      above_nonzero = (of.sensitivity_positive (j + 1) (omega arith), of.sensitivity_most (j + 1) (omega arith));
       resistance_le_most_face_resistance = sum-most l (omega arith);
     }
 

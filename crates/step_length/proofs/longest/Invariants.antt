@@ -6,7 +6,7 @@ use Rattle.laws.specs.Most.{most_face_resistance, most_sensitivity}
 use Rattle.laws.specs.Shorten.{shortened}
 use Rattle.element.specs.Elements.{elements_in}
 use Rattle.step_length.specs.Reach.{Limited, longest_within}
-use Rattle.step_length.proofs.ReachAt.{longest-is, from_bottom, at_inner, at_top}
+use Rattle.step_length.proofs.ReachAt.{longest_is, from_bottom, at_inner, at_top}
 use Rattle.quantities.specs.Quantities.{stress_limits, step_limits}
 use Rattle.rules.specs.Step.{contacts_above}
 use native.Mathlib.Omega.{arith}

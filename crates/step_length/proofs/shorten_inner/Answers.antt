@@ -12,7 +12,7 @@ use Rattle.step_length.proofs.shorten_inner.Tie as tie
 
 divided-by : (c : lts.After-greater tie.the-claims reads.Pre reads.Post tie.handed_clauses) → let d = 2 * c.greater.result * c.args.steepness in (0 < d) × (d ≤ most_divisor)
 divided-by c =
-    let (below, (above, _)) = c.requires.1.1 in
+    let below = c.requires.below_nonzero in let above = c.requires.above_nonzero in
     let one = c.greater.ensures in
     divisor_range c.greater.result c.args.steepness (omega arith) (omega arith) c.requires.steepness_nonzero.0 c.requires.steepness_nonzero.1
 

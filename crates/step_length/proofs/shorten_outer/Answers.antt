@@ -14,7 +14,7 @@ use Rattle.step_length.proofs.shorten_outer.Tie as tie
 
 divided-by : (s : lts.Start tie.the-claims reads.Pre reads.Post tie.handed_clauses) → let d = 2 * s.args.sensitivity * s.args.steepness in (0 < d) × (d ≤ most_divisor)
 divided-by s =
-    let (steepness, (sensitivity, _)) = s.requires.1 in
+    let steepness = s.requires.steepness_nonzero in let sensitivity = s.requires.sensitivity_nonzero in
     divisor_range s.args.sensitivity s.args.steepness sensitivity.0 sensitivity.1 steepness.0 steepness.1
 
 pub overflow_mul-sensitivity-in-Drained : goal.overflow_mul-sensitivity-in-Drained

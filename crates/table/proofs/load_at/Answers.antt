@@ -6,7 +6,7 @@ use Rattle.numbers.proofs.Signed.{signed, read_unsigned}
 use Rattle.rules.specs.Curve.{points}
 use Rattle.rules.specs.Load.{load_at}
 use Rattle.quantities.specs.Quantities.{pressure}
-use Rattle.table.proofs.Laws.{Tabled, tabled, load_here, load-later, load_last}
+use Rattle.table.proofs.Laws.{Tabled, tabled, load_here, load_later, load_last}
 use Rattle.table.proofs.load_at.Goals as goal
 use Rattle.table.proofs.load_at.Lts as lts
 use Rattle.table.proofs.load_at.Reads as reads
@@ -37,7 +37,7 @@ returns-then-clock-time c = let a = c.args in
 pub loop-i-preserved : goal.loop-i-preserved
 loop-i-preserved c =
     let a = c.args in
-    let later = load-later a.table_points a.time.now a.load.now c.loop-i.i a.clock (omega arith) (omega arith) in
+    let later = load_later a.table_points a.time.now a.load.now c.loop-i.i a.clock (omega arith) (omega arith) in
     (omega arith, (omega arith, sym later ∙ c.loop-i.invariant.1.1))
 
 pub overflow_cast-result : goal.overflow_cast-result

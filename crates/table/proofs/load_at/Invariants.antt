@@ -6,7 +6,7 @@ use Rattle.numbers.proofs.Signed.{signed, read_unsigned}
 use Rattle.rules.specs.Curve.{points}
 use Rattle.rules.specs.Load.{load_at}
 use Rattle.quantities.specs.Quantities.{pressure}
-use Rattle.table.proofs.Laws.{Tabled, tabled, load_here, load-later, load_last}
+use Rattle.table.proofs.Laws.{Tabled, tabled, load_here, load_later, load_last}
 use Rattle.table.proofs.load_at.Given as goal
 
 abbrev pub invariant-loop-i : goal.invariant-loop-i

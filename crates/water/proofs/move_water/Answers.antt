@@ -67,7 +67,7 @@ pub loop-j-init : goal.loop-j-init
 loop-j-init c = (omega arith, refl, sym (filled_zero _ _))
 
 pub new_water-requires-clause-water_le_most : goal.new_water-requires-clause-water_le_most
-new_water-requires-clause-water_le_most c = let l = c.before.before.before.before.before in simp (here l, read_back (above-fits l (omega arith)), enters_is l) ((movable l).water-most (j l) (omega arith))
+new_water-requires-clause-water_le_most c = let l = c.before.before.before.before.before in simp (here l, read_back (above-fits l (omega arith)), enters_is l) ((movable l).water_most (j l) (omega arith))
 
 pub new_water-requires-clause-within : goal.new_water-requires-clause-within
 new_water-requires-clause-within c = let l = c.before.before.before.before.before in simp (here l, read_back (above-fits l (omega arith)), enters_is l) (((movable l).above_within (j l) (omega arith), enters-within l (omega arith)))

@@ -16,8 +16,8 @@ use Rattle.water.proofs.new_water.Reads as reads
 use Rattle.water.proofs.new_water.Tie as tie
 
 module _ (c : lts.Start reads.Pre reads.Post tie.handed_clauses) where
-  water-is : to_z w64 c.args.water ≡ pos c.args.water
-  water-is = read_unsigned c.args.water (omega arith)
+  water_is : to_z w64 c.args.water ≡ pos c.args.water
+  water_is = read_unsigned c.args.water (omega arith)
 
   less : Within (pos c.args.water -ℤ c.args.leaves) (water_limits.most + most_flow)
   less = within-sub (within_le {n = water_limits.most} (within_pos c.args.water) (omega arith)) c.requires.within.0
@@ -29,11 +29,11 @@ module _ (c : lts.Start reads.Pre reads.Post tie.handed_clauses) where
   new-fits = within_fits tt (within-add less c.requires.within.1)
 
 pub overflow_sub-result : goal.overflow_sub-result
-overflow_sub-result c = simp (water-is c, read_back c.ranges.leaves) (less-fits c)
+overflow_sub-result c = simp (water_is c, read_back c.ranges.leaves) (less-fits c)
 
 pub overflow_add-result : goal.overflow_add-result
-overflow_add-result c = simp (water-is c, read_back c.ranges.leaves, read_back c.ranges.enters, read_back (less-fits c)) (new-fits c)
+overflow_add-result c = simp (water_is c, read_back c.ranges.leaves, read_back c.ranges.enters, read_back (less-fits c)) (new-fits c)
 
 pub returns : goal.returns
 returns c =
-    simp (water-is c, read_back c.ranges.leaves, read_back c.ranges.enters, read_back (less-fits c), read_back (new-fits c))
+    simp (water_is c, read_back c.ranges.leaves, read_back c.ranges.enters, read_back (less-fits c), read_back (new-fits c))

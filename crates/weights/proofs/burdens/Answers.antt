@@ -2,7 +2,7 @@ use Prim.Native.Nat.{ℕ, ◌+◌, ◌-◌, ◌/◌, ◌≤◌, ◌<◌}
 use mathlib.Core.Path.{◌≡◌, sym, ap}
 use Rattle.laws.specs.Most.{most_total_weight}
 use Rattle.weights.specs.Weights.{weight_from, burden_at}
-use Rattle.weights.proofs.WeightsAt.{weight_step, burden-is}
+use Rattle.weights.proofs.WeightsAt.{weight_step, burden_is}
 use Rattle.numbers.specs.Arrays.{filled}
 use Rattle.numbers.proofs.Filled.{filled_zero, filled_store, filled_done}
 use native.Mathlib.Omega.{arith}
@@ -32,7 +32,7 @@ overflow_sub-over c = omega (arith, own c.before (omega arith))
 pub loop-j-preserved : goal.loop-j-preserved
 loop-j-preserved c =
     let o = own c.before.before (omega arith) in
-    let b = burden-is c.args.gravity c.args.elements c.args.solids.now c.loop-j.j (omega arith) in
+    let b = burden_is c.args.gravity c.args.elements c.args.solids.now c.loop-j.j (omega arith) in
     let e = c.buoyant_weight-own.ensures.0 in (
       omega arith,
       omega arith,

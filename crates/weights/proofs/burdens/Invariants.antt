@@ -2,7 +2,7 @@ use Prim.Native.Nat.{ℕ, ◌+◌, ◌-◌, ◌/◌, ◌≤◌, ◌<◌}
 use mathlib.Core.Path.{◌≡◌, sym, ap}
 use Rattle.laws.specs.Most.{most_total_weight}
 use Rattle.weights.specs.Weights.{weight_from, burden_at}
-use Rattle.weights.proofs.WeightsAt.{weight_step, burden-is}
+use Rattle.weights.proofs.WeightsAt.{weight_step, burden_is}
 use Rattle.numbers.specs.Arrays.{filled}
 use Rattle.numbers.proofs.Filled.{filled_zero, filled_store, filled_done}
 use native.Mathlib.Omega.{arith}

@@ -4,7 +4,7 @@ use mathlib.Core.Path.{◌≡◌}
 use Rattle.numbers.specs.Interpolation.{distance, share}
 use Rattle.numbers.proofs.Shares.{interpolates}
 use Rattle.rules.specs.Curve.{point, interpolated}
-use Rattle.laws.proofs.Interpolating.{segment-divides}
+use Rattle.laws.proofs.Interpolating.{segment_divides}
 use Rattle.quantities.specs.Quantities.{stress_limits, void_limits}
 use native.Mathlib.Omega.{arith}
 use borrow.Author.Rules.{rules}
@@ -41,4 +41,4 @@ overflow_add-result c = let s = c.before.before.before in omega (arith, within s
 pub returns : goal.returns
 unfolding interpolated
 returns c =
-    rw (shared c) (segment-divides (point c.args.x0 c.args.y0) (point c.args.x1 c.args.y1) c.args.x c.requires.x1_nonzero.0)
+    rw (shared c) (segment_divides (point c.args.x0 c.args.y0) (point c.args.x1 c.args.y1) c.args.x c.requires.x1_nonzero.0)

@@ -1,6 +1,6 @@
 use native.Mathlib.Omega.{arith}
 use mathlib.Core.Path.{sym, ◌∙◌}
-use Rattle.curves.proofs.Segments.{interpolable, read-any, named}
+use Rattle.curves.proofs.Segments.{interpolable, read_any, named}
 use borrow.Author.Rules.{rules}
 use Rattle.curves.proofs.reading.read.Goals as goal
 
@@ -14,6 +14,6 @@ interpolated-requires c = let t = interpolable _ _ _ c.args.x c.args.hint c.requ
 pub returns-then-spans : goal.returns-then-spans
 returns-then-spans c = let on = sym (c.spans.ensures _ _) ∙ c.if-spans.true in
     let is = c.interpolated.ensures in record {
-      value_value = (read-any _ _ _ c.args.x c.args.hint c.requires.smooth (omega arith) on is.value, omega arith);
+      value_value = (read_any _ _ _ c.args.x c.args.hint c.requires.smooth (omega arith) on is.value, omega arith);
       read_on = named c.args.count c.args.xs.now c.args.ys.now c.args.x c.args.hint is;
     }

@@ -3,7 +3,7 @@ use native.Mathlib.Nat.{zero-add}
 use lib.ListN.{drop}
 use mathlib.Core.Path.{◌≡◌, refl, sym, ◌∙◌}
 use Rattle.rules.specs.Curve.{points, curve_at, segment_at}
-use Rattle.curves.proofs.Segments.{interpolable, read_here, read-on, read_end, found_here, found-on, named, not_on}
+use Rattle.curves.proofs.Segments.{interpolable, read_here, read_on, read_end, found_here, found_on, named, not_on}
 use native.Mathlib.Omega.{arith}
 use borrow.Author.Rules.{rules}
 use Rattle.curves.proofs.reading.read_from_first.Goals as goal
@@ -30,8 +30,8 @@ pub loop-i-preserved : goal.loop-i-preserved
 loop-i-preserved c =
     let off = sym (c.spans.ensures _ _) ∙ c.if-spans.false in (
       omega arith,
-      sym (read-on _ _ _ c.args.x c.loop-i.i (omega arith) off) ∙ c.loop-i.invariant.1,
-      found-on _ _ _ c.args.x c.loop-i.i (omega arith) off c.loop-i.invariant.2,
+      sym (read_on _ _ _ c.args.x c.loop-i.i (omega arith) off) ∙ c.loop-i.invariant.1,
+      found_on _ _ _ c.args.x c.loop-i.i (omega arith) off c.loop-i.invariant.2,
     )
 
 pub returns : goal.returns

@@ -8,7 +8,7 @@ use mathlib.Core.List.{List}
 use mathlib.Core.Path.{◌≡◌, refl, sym, ◌∙◌}
 use Rattle.numbers.specs.Lists.{all}
 use Rattle.rules.specs.Curve.{Point, points, curve_at, is_on, covers}
-use Rattle.rules.proofs.Points.{all_fails, all-goes, all_ends}
+use Rattle.rules.proofs.Points.{all_fails, all_goes, all_ends}
 use Rattle.points.proofs.Covers.{between_ends}
 use Rattle.points.proofs.checks.covers.Invariants.{on}
 use Rattle.points.proofs.checks.covers.Goals as goal
@@ -35,7 +35,7 @@ returns-then-not-within c stress =
 pub loop-i-preserved : goal.loop-i-preserved
 loop-i-preserved c =
     let a = c.args in
-    (omega arith, λ stress. all-goes a.first_count a.first_void.now stress (on a.count a.void.now a.conductivity.now) c.loop-i.i (c.loop-i.invariant.1 stress) (omega arith) (told c.before.before ∙ c.if-not-within.false))
+    (omega arith, λ stress. all_goes a.first_count a.first_void.now stress (on a.count a.void.now a.conductivity.now) c.loop-i.i (c.loop-i.invariant.1 stress) (omega arith) (told c.before.before ∙ c.if-not-within.false))
 
 pub returns : goal.returns
 unfolding covers

@@ -8,7 +8,7 @@ use mathlib.Core.List.{List}
 use mathlib.Core.Path.{◌≡◌, refl, sym, ◌∙◌}
 use Rattle.numbers.specs.Lists.{all}
 use Rattle.rules.specs.Curve.{Point, points, curve_at, is_on, covers}
-use Rattle.rules.proofs.Points.{all_fails, all-goes, all_ends}
+use Rattle.rules.proofs.Points.{all_fails, all_goes, all_ends}
 use Rattle.points.proofs.Covers.{between_ends}
 use Rattle.points.proofs.checks.covers.Given as goal
 

@@ -4,7 +4,7 @@ use lib.ListN.{drop}
 use mathlib.Core.Path.{◌≡◌, refl, sym, ◌∙◌}
 use Rattle.numbers.specs.Lists.{neighbours}
 use Rattle.rules.specs.Curve.{points}
-use Rattle.rules.proofs.Points.{neighbours_fail, neighbours_go, neighbours-stop}
+use Rattle.rules.proofs.Points.{neighbours_fail, neighbours_go, neighbours_stop}
 use Rattle.points.specs.Checks.{follows}
 use native.Mathlib.Omega.{arith}
 use borrow.Author.Rules.{rules}
@@ -23,4 +23,4 @@ loop-i-preserved c =
 
 pub returns : goal.returns
 returns c =
-    neighbours-stop c.args.count c.args.xs.now c.args.ys.now (follows c.args.trend) c.loop-i.i c.loop-i.invariant.1 (omega arith)
+    neighbours_stop c.args.count c.args.xs.now c.args.ys.now (follows c.args.trend) c.loop-i.i c.loop-i.invariant.1 (omega arith)

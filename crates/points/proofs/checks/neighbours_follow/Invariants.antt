@@ -4,7 +4,7 @@ use lib.ListN.{drop}
 use mathlib.Core.Path.{◌≡◌, refl, sym, ◌∙◌}
 use Rattle.numbers.specs.Lists.{neighbours}
 use Rattle.rules.specs.Curve.{points}
-use Rattle.rules.proofs.Points.{neighbours_fail, neighbours_go, neighbours-stop}
+use Rattle.rules.proofs.Points.{neighbours_fail, neighbours_go, neighbours_stop}
 use Rattle.points.specs.Checks.{follows}
 use native.Mathlib.Omega.{arith}
 use borrow.Author.Rules.{rules}

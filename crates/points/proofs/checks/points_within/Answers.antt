@@ -4,7 +4,7 @@ use lib.ListN.{drop}
 use mathlib.Core.Path.{◌≡◌, refl, sym, ◌∙◌}
 use Rattle.numbers.specs.Lists.{all}
 use Rattle.rules.specs.Curve.{points}
-use Rattle.rules.proofs.Points.{all_fails, all-goes, all_ends}
+use Rattle.rules.proofs.Points.{all_fails, all_goes, all_ends}
 use Rattle.quantities.specs.Quantities.{limits_of}
 use Rattle.points.specs.Checks.{point_within}
 use native.Mathlib.Omega.{arith}
@@ -20,7 +20,7 @@ returns-then-not-point_within c =
 
 pub loop-i-preserved : goal.loop-i-preserved
 loop-i-preserved c =
-    (omega arith, all-goes c.args.count c.args.xs.now c.args.ys.now (point_within (limits_of c.args.abscissa) (limits_of c.args.ordinate)) c.loop-i.i c.loop-i.invariant.1 (omega arith) (sym c.point_within.ensures ∙ c.if-not-point_within.false))
+    (omega arith, all_goes c.args.count c.args.xs.now c.args.ys.now (point_within (limits_of c.args.abscissa) (limits_of c.args.ordinate)) c.loop-i.i c.loop-i.invariant.1 (omega arith) (sym c.point_within.ensures ∙ c.if-not-point_within.false))
 
 pub returns : goal.returns
 returns c =

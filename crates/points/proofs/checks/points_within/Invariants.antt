@@ -4,7 +4,7 @@ use lib.ListN.{drop}
 use mathlib.Core.Path.{◌≡◌, refl, sym, ◌∙◌}
 use Rattle.numbers.specs.Lists.{all}
 use Rattle.rules.specs.Curve.{points}
-use Rattle.rules.proofs.Points.{all_fails, all-goes, all_ends}
+use Rattle.rules.proofs.Points.{all_fails, all_goes, all_ends}
 use Rattle.quantities.specs.Quantities.{limits_of}
 use Rattle.points.specs.Checks.{point_within}
 use native.Mathlib.Omega.{arith}

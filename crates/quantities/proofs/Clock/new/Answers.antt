@@ -1,11 +1,11 @@
 use borrow.Author.Rules.{rules}
 use mathlib.Core.Path.{sym, ◌∙◌}
 use Rattle.quantities.specs.Quantities.{clock_limits}
-use Rattle.quantities.proofs.Limits.{tested-kept, tested_outside}
+use Rattle.quantities.proofs.Limits.{tested_kept, tested_outside}
 use Rattle.quantities.proofs.Clock.new.Goals as goal
 
 pub returns-then-within : goal.returns-then-within
-returns-then-within c = tested-kept clock_limits _ _ _ (sym c.within.ensures ∙ c.if-within.true)
+returns-then-within c = tested_kept clock_limits _ _ _ (sym c.within.ensures ∙ c.if-within.true)
 
 pub returns-else-within : goal.returns-else-within
 returns-else-within c = tested_outside clock_limits _ _ _ (sym c.within.ensures ∙ c.if-within.false)
