@@ -57,7 +57,7 @@ overflow_sub-result-then-z-lt0 c =
 
 pub returns-then-z-lt0 : goal.returns-then-z-lt0
 returns-then-z-lt0 c =
-    simp (read_back c.ranges.z, read_back (rest-fits c), field_below (z c) (below c)) (omega (arith, one_more c))
+    simp (read_back c.ranges.z, read_back (rest-fits c)) (rw (field_below (z c) (below c)) (omega (arith, one_more c)))
 
 pub overflow_cast-result-2 : goal.overflow_cast-result-2
 overflow_cast-result-2 c = simp (read_back c.ranges.z) (cast_fits c.args.z (above c) c.ranges.z)

@@ -11,7 +11,7 @@ bottom_flow-requires-clause-within c = let of = c.requires.readable in
 
 pub bottom_flow-requires-clause-resistance_nonzero : goal.bottom_flow-requires-clause-resistance_nonzero
 bottom_flow-requires-clause-resistance_nonzero c = let of = c.requires.readable in
-    let within = of.excess_within 0 c.requires.elements_nonzero.0 in simp (read_back (within_fits tt within)) ((of.resistance_positive 0 c.requires.elements_nonzero.0, omega (arith, of.resistance_most 0 c.requires.elements_nonzero.0)))
+    let within = of.excess_within 0 c.requires.elements_nonzero.0 in ((of.resistance_positive 0 c.requires.elements_nonzero.0, omega (arith, of.resistance_most 0 c.requires.elements_nonzero.0)))
 
 pub returns : goal.returns
 returns c = let within = c.requires.readable.excess_within 0 c.requires.elements_nonzero.0 in record {

@@ -76,7 +76,7 @@ pub flow-requires-clause-within : goal.flow-requires-clause-within
 flow-requires-clause-within c = let l = c.before.before.before.before.before.before.before in simp (read_back (p-fits l (j l) (omega arith)), read_back (p-fits l (j l + 1) (omega arith)), read_back (difference-fits l (omega arith))) (difference l (omega arith))
 
 pub flow-requires-clause-resistance_nonzero : goal.flow-requires-clause-resistance_nonzero
-flow-requires-clause-resistance_nonzero c = let l = c.before.before.before.before.before.before.before in simp (read_back (p-fits l (j l) (omega arith)), read_back (p-fits l (j l + 1) (omega arith)), read_back (difference-fits l (omega arith))) (sum-within l (omega arith))
+flow-requires-clause-resistance_nonzero c = let l = c.before.before.before.before.before.before.before in (sum-within l (omega arith))
 
 pub loop-j-preserved : goal.loop-j-preserved
 loop-j-preserved c =

@@ -35,10 +35,10 @@ loop-j-preserved c =
     let long = c.requires.excess_len in (
       omega (arith, room),
       filled_store _ _ _ _ _ (omega (arith, room, long)) c.loop-j.invariant.1
-          (read_back {z = read.result.excess.0} (record { sfits = c.struct_told-1.given.0.1.1.0.1 }) ∙ ap (λ (p : Pressure). p.0) read.ensures.0.0),
-      filled_store _ _ _ _ _ (omega (arith, room, long)) c.loop-j.invariant.2 read.ensures.0.1,
-      segments_store c.loop-j.invariant.3 _ (omega (arith, room, long)) read.ensures.1.0,
-      segments_store c.loop-j.invariant.4 _ (omega (arith, room, long)) read.ensures.1.1,
+          (read_back {z = read.result.excess.0} (record { sfits = c.struct_told-1.given.0.1.1.0.1 }) ∙ ap (λ (p : Pressure). p.0) read.ensures.excess_value.0),
+      filled_store _ _ _ _ _ (omega (arith, room, long)) c.loop-j.invariant.2 read.ensures.excess_value.1,
+      segments_store c.loop-j.invariant.3 _ (omega (arith, room, long)) read.ensures.stress_segment_bound.0,
+      segments_store c.loop-j.invariant.4 _ (omega (arith, room, long)) read.ensures.stress_segment_bound.1,
     )
 
 pub returns : goal.returns

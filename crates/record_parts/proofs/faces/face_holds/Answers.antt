@@ -10,6 +10,5 @@ returns-in-Closed c = rw c.in-Closed.is
 pub returns-in-Drained : goal.returns-in-Drained
 unfolding face_holds
 returns-in-Drained c =
-    let face = c.face-1.given in
-    let held = c.args.held in
-    rw face.1 (bits_equal face.0.0.0 held.0 (record { sfits = c.struct_told-1.given.0.1 }) (record { sfits = c.struct_told-in-Drained-1.given.0.1 }))
+    rw c.in-Drained.is
+    (bits_equal c.in-Drained.other.0 c.args.held.0 (record { sfits = c.struct_told-1.given.0.1 }) (record { sfits = c.struct_told-in-Drained-1.given.0.1 }))
