@@ -1,0 +1,24 @@
+use Prim.Native.Nat.{ℕ, ◌-◌, ◌≤◌}
+use native.Mathlib.Omega.{arith}
+use borrow.Author.Tests.{not-true, not-false}
+use lib.ListN.{get_or}
+use mathlib.Core.Bool.{Bool}
+use mathlib.Core.List.{List}
+use mathlib.Core.Path.{◌≡◌, sym, ◌∙◌}
+use Rattle.numbers.specs.Arrays.{every_index}
+use Rattle.numbers.proofs.Indices.{rest_passes, all_rest, index_fails, index_goes, index_ends}
+use Rattle.rules.specs.Curve.{Point, points, is_on}
+use Rattle.rules.specs.Layer.{skeleton_of, effective_stress}
+use Rattle.start.proofs.Given.{each_on}
+use Rattle.start.proofs.all_on_curve.Given as goal
+
+-- element j is on the curve
+abbrev pub on_at : (curve : List Point) (solids water : List ℕ) → ℕ → Bool
+on_at curve solids water j = is_on (effective_stress (skeleton_of curve) (get_or solids j 0) (get_or water j 0))
+
+abbrev pub invariant-loop-j : goal.invariant-loop-j
+invariant-loop-j l =
+    (l.j ≤ l.elements) × (rest_passes l.elements (on_at (points l.skeleton.points l.void l.stress) l.solids l.water) l.j ≡ every_index l.elements (on_at (points l.skeleton.points l.void l.stress) l.solids l.water))
+
+abbrev pub decreases-loop-j : goal.decreases-loop-j
+decreases-loop-j l = l.elements - l.j

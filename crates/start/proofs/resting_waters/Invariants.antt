@@ -1,0 +1,21 @@
+use Prim.Native.Nat.{ℕ, ◌-◌, ◌≤◌, ◌<◌}
+use native.Mathlib.Omega.{arith}
+use borrow.Author.Count.{below_more}
+use borrow.Author.Rules.{rules}
+use mathlib.Core.Option.{some}
+use mathlib.Core.Path.{◌≡◌, sym, ap, ◌∙◌}
+use Rattle.numbers.specs.Arrays.{filled}
+use Rattle.numbers.proofs.Filled.{filled_zero, filled_store}
+use Rattle.rules.specs.Curve.{points}
+use Rattle.rules.specs.Layer.{skeleton_of}
+use Rattle.start.specs.Rest.{all_or_none}
+use Rattle.start.proofs.Filling.{answer_at, answer_nowhere, resting_at, height_at, height_is, filling_stops, filling_ends}
+use Rattle.start.proofs.resting_waters.Given as goal
+
+abbrev pub invariant-loop-j : goal.invariant-loop-j
+invariant-loop-j l =
+    (l.j ≤ l.elements) × (l.water ≡ filled l.initial.water l.j (height_at (skeleton_of (points l.skeleton.points l.void l.stress)) l.load l.burden l.solids)) ×
+    ((i : ℕ) → i < l.j → resting_at (skeleton_of (points l.skeleton.points l.void l.stress)) l.load l.burden l.solids i ≡ some (height_at (skeleton_of (points l.skeleton.points l.void l.stress)) l.load l.burden l.solids i))
+
+abbrev pub decreases-loop-j : goal.decreases-loop-j
+decreases-loop-j l = l.elements - l.j

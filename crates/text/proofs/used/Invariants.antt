@@ -1,0 +1,14 @@
+use Prim.Native.Nat.{◌≤◌}
+use native.Mathlib.Omega.{arith}
+use lib.ListN.{length, take}
+use lib.Seq.{take-length}
+use mathlib.Core.Path.{◌≡◌, ap, ◌∙◌}
+use Rattle.text.specs.Text.{trimmed}
+use Rattle.text.proofs.Laws.{trimmed_less, trimmed-all}
+use Rattle.text.proofs.used.Given as goal
+
+abbrev pub invariant-loop-n : goal.invariant-loop-n
+invariant-loop-n l = (l.n ≤ length l.values) × (trimmed (take l.n l.values) ≡ trimmed l.values)
+
+abbrev pub decreases-loop-n : goal.decreases-loop-n
+decreases-loop-n l = l.n
