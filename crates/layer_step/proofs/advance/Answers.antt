@@ -41,7 +41,7 @@ module _ (c : lts.After-all_flows tie.the-claims reads.Pre reads.Post tie.handed
   flows-above = above s.args.elements s.requires.elements_nonzero.0 s.args.top s.args.bottom s.args.t s.args.excess.now s.args.resistance.now s.args.above.now
 
   abbrev now-above : List ℤ
-  now-above = c.all_flows-lowest.new.1.1.1.1.1.1.0
+  now-above = c.all_flows-lowest.new.above
 
   bottom-is : to_z w64 (of_z w64 c.all_flows-lowest.result) ≡ bottom-flow
   bottom-is = read_back {z = c.all_flows-lowest.result} (record { sfits = c.all_flows-lowest.type_inv }) ∙ c.all_flows-lowest.ensures.value
@@ -52,7 +52,7 @@ module _ (c : lts.After-all_flows tie.the-claims reads.Pre reads.Post tie.handed
   moves : Movable s.args.elements bottom-flow flows-above s.args.water.now
   moves = movable s.args.elements s.requires.elements_nonzero.0 s.args.top s.args.bottom s.args.t s.args.excess.now s.args.resistance.now s.args.above.now s.args.water.now s.requires.held_within.0 s.requires.held_within.1 s.requires.t_le_most s.requires.readable (λ j h. (s.requires.by_index j h).2)
 
-  moves-now : Movable s.args.elements (to_z w64 (of_z w64 c.all_flows-lowest.result)) c.all_flows-lowest.new.1.1.1.1.1.1.0 s.args.water.now
+  moves-now : Movable s.args.elements (to_z w64 (of_z w64 c.all_flows-lowest.result)) c.all_flows-lowest.new.above s.args.water.now
   moves-now = movable_as s.args.elements s.args.water.now bottom-is above_is moves
 
   -- the first of the flows is that of the bottom
@@ -75,7 +75,7 @@ module _ (c : lts.After-all_flows tie.the-claims reads.Pre reads.Post tie.handed
       water_is s.args.elements s.requires.elements_nonzero.0 s.args.top s.args.bottom s.args.t s.args.excess.now s.args.resistance.now s.args.above.now s.args.water.now
 
   -- the test by bounds
-  stays : every_index s.args.elements (stays_at (to_z w64 (of_z w64 c.all_flows-lowest.result)) c.all_flows-lowest.new.1.1.1.1.1.1.0 s.args.water.now s.args.low.now s.args.high.now) ≡
+  stays : every_index s.args.elements (stays_at (to_z w64 (of_z w64 c.all_flows-lowest.result)) c.all_flows-lowest.new.above s.args.water.now s.args.low.now s.args.high.now) ≡
       stays_between s.args.elements s.args.low.now s.args.high.now s.args.water.now
       (flows_in s.args.top s.args.bottom s.args.t s.args.elements s.args.excess.now s.args.resistance.now)
   stays =
@@ -85,12 +85,12 @@ module _ (c : lts.After-all_flows tie.the-claims reads.Pre reads.Post tie.handed
 pub stays_between-requires : goal.stays_between-requires
 stays_between-requires c = record {
   elements_le_most = c.requires.elements_nonzero.1;
-  movable = moves-now c.before.before;
+  movable = moves-now c;
   by_index = λ j h. ((c.requires.by_index j h).0, (c.requires.by_index j h).1);
 }
 
 pub returns-then-not-stays_between : goal.returns-then-not-stays_between
-returns-then-not-stays_between c = let f = c.before.before.before.before in
+returns-then-not-stays_between c = let f = c.before.before in
     let gone = sym (stays f) ∙ sym c.stays_between.ensures ∙ c.if-not-stays_between.true in record {
       value = gives_leaves _ gone;
       water_after = keeps _ _ _ gone;
@@ -98,7 +98,7 @@ returns-then-not-stays_between c = let f = c.before.before.before.before in
     }
 
 pub move_water-requires : goal.move_water-requires
-move_water-requires c = let f = c.before.before.before.before.before.before in
+move_water-requires c = let f = c.before.before.before in
     let on = sym c.stays_between.ensures ∙ c.if-not-stays_between.false in record {
       elements_le_most = c.requires.elements_nonzero.1;
       movable = moves-now f;
@@ -107,7 +107,7 @@ move_water-requires c = let f = c.before.before.before.before.before.before in
     }
 
 pub returns : goal.returns
-returns c = let f = c.before.before.before.before.before.before.before.before in
+returns c = let f = c.before.before.before.before.before in
     let on = sym c.stays_between.ensures ∙ c.if-not-stays_between.false in record {
       value = gives_flows _ (sym (stays f) ∙ on) (first_is f) (top-is f);
       water_after = c.move_water.ensures ∙ water-now f ∙ moves_on _ _ _ (sym (stays f) ∙ on);

@@ -44,12 +44,12 @@ returns-then-t-eq0 c = let a = (s c.before).args in
 pub advance-requires : goal.advance-requires
 advance-requires c = let l = c.before.before.before in
     let p = (s l).requires in record {
-      elements_nonzero = p.0;
-      held_within = (p.1.0.0, p.1.0.1);
+      elements_nonzero = p.elements_nonzero;
+      held_within = (p.held_within.0, p.held_within.1);
       t_le_most = short l;
-      readable = p.1.1.1.0;
-      by_index = p.1.1.1.1.0;
-      above_len = p.1.1.1.1.1;
+      readable = p.readable;
+      by_index = p.by_index;
+      above_len = p.above_len;
     }
 
 -- a step is taken
@@ -64,7 +64,7 @@ pub returns-in-Leaves : goal.returns-in-Leaves
 returns-in-Leaves c = let v = c.before in
     let a = (s (l v)).args in
     let gave = v.advance.ensures in
-    let gives = off_curve a.top a.bottom a.elements a.low.now a.high.now a.water.now a.excess.now a.resistance.now a.above.now (l v).longest-t.result (longest_is (l v)) (positive v) (sym c.in-Leaves.is ∙ gave.0) gave.1.0 gave.1.1 in record {
+    let gives = off_curve a.top a.bottom a.elements a.low.now a.high.now a.water.now a.excess.now a.resistance.now a.above.now (l v).longest-t.result (longest_is (l v)) (positive v) (sym c.in-Leaves.is ∙ gave.value) gave.water_after gave.above_after in record {
       value = gives.0;
       water_after = gives.1;
       above_after = gives.2;
@@ -76,7 +76,7 @@ returns-in-Flows c = let v = c.before in
     let gave = v.advance.ensures in
     let first_back = read_back {z = c.in-Flows.first} (record { sfits = c.in-Flows.known_told-1-own.given.0.1 }) in
     let last-back = read_back {z = c.in-Flows.last} (record { sfits = c.in-Flows.known_told-1-own.given.1.0.1 }) in
-    let gives = is_on_curve a.top a.bottom a.elements a.low.now a.high.now a.water.now a.excess.now a.resistance.now a.above.now (l v).longest-t.result (longest_is (l v)) (positive v) (sym c.in-Flows.is ∙ gave.0) gave.1.0 gave.1.1 in record {
+    let gives = is_on_curve a.top a.bottom a.elements a.low.now a.high.now a.water.now a.excess.now a.resistance.now a.above.now (l v).longest-t.result (longest_is (l v)) (positive v) (sym c.in-Flows.is ∙ gave.value) gave.water_after gave.above_after in record {
       value = simp (first_back, last-back) gives.0;
       water_after = gives.1;
       above_after = gives.2;
