@@ -1,14 +1,9 @@
-use Prim.Native.Nat.{ℕ, ◌-◌, ◌≤◌}
+use Prim.Native.Nat.{ℕ}
 use native.Mathlib.Omega.{arith}
-use borrow.Author.Tests.{not-true, not-false}
-use lib.ListN.{get_or}
 use mathlib.Core.Bool.{Bool}
-use mathlib.Core.List.{List}
-use mathlib.Core.Path.{◌≡◌, sym, ◌∙◌}
-use Rattle.numbers.specs.Arrays.{every_index}
-use Rattle.numbers.proofs.Indices.{rest_passes, all_rest, index_fails, index_goes, index_ends}
-use Rattle.rules.specs.Curve.{Point, points, is_on}
-use Rattle.rules.specs.Layer.{skeleton_of, effective_stress}
+use mathlib.Core.Path.{sym, ◌∙◌}
+use Rattle.numbers.proofs.Indices.{all_rest, index_fails, index_goes, index_ends}
+use Rattle.rules.specs.Curve.{points}
 use Rattle.start.proofs.Given.{each_on}
 use Rattle.start.proofs.all_on_curve.Invariants.{on_at}
 use Rattle.start.proofs.all_on_curve.Goals as goal
@@ -29,16 +24,8 @@ module _ (l : lts.At-loop tie.the-claims reads.Pre reads.Post goal.the-invariant
 pub loop-j-init : goal.loop-j-init
 loop-j-init c = (omega arith, all_rest _ _)
 
-pub effective_stress-found-requires : goal.effective_stress-found-requires
-effective_stress-found-requires c = let t = let l = c.before.before.before.before.before.before in
-    ((s l).requires.by_index (j l) (omega arith), (s l).requires.1.1) in record {
-      solids_nonzero = t.0;
-      least_le_points = t.1.0;
-      stress_value = t.1.1;
-    }
-
-pub is_on-requires : goal.is_on-requires
-is_on-requires c = tt
+pub effective_stress-found-requires-clause-solids_nonzero : goal.effective_stress-found-requires-clause-solids_nonzero
+effective_stress-found-requires-clause-solids_nonzero c = c.requires.by_index c.loop-j.j (omega arith)
 
 pub returns-then-not-is_on : goal.returns-then-not-is_on
 returns-then-not-is_on c =

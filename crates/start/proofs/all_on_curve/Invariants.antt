@@ -1,15 +1,12 @@
 use Prim.Native.Nat.{ℕ, ◌-◌, ◌≤◌}
-use native.Mathlib.Omega.{arith}
-use borrow.Author.Tests.{not-true, not-false}
 use lib.ListN.{get_or}
 use mathlib.Core.Bool.{Bool}
 use mathlib.Core.List.{List}
-use mathlib.Core.Path.{◌≡◌, sym, ◌∙◌}
+use mathlib.Core.Path.{◌≡◌}
 use Rattle.numbers.specs.Arrays.{every_index}
-use Rattle.numbers.proofs.Indices.{rest_passes, all_rest, index_fails, index_goes, index_ends}
+use Rattle.numbers.proofs.Indices.{rest_passes}
 use Rattle.rules.specs.Curve.{Point, points, is_on}
 use Rattle.rules.specs.Layer.{skeleton_of, effective_stress}
-use Rattle.start.proofs.Given.{each_on}
 use Rattle.start.proofs.all_on_curve.Given as goal
 
 -- element j is on the curve

@@ -3,7 +3,6 @@ use mathlib.Core.Path.{sym, ap, ◌∙◌}
 use Rattle.start.specs.Rest.{resting_answer}
 use Rattle.start.proofs.Ends.{last_stress_lem}
 use Rattle.start.proofs.Heights.{under_last, above_last}
-use borrow.Author.Rules.{rules}
 use Rattle.start.proofs.resting_under.Goals as goal
 
 pub returns-then-stress-skeleton : goal.returns-then-stress-skeleton

@@ -1,7 +1,6 @@
 use Prim.Native.Nat.{ℕ, ◌+◌, ◌-◌, ◌/◌, ◌≤◌, ◌<◌}
 use native.Mathlib.Nat.{le_refl}
 use native.Mathlib.Omega.{arith}
-use borrow.Author.Tests.{not-true, not-false}
 use lib.Dec.{T}
 use mathlib.Core.Bool.{Bool, false}
 use mathlib.Core.Path.{◌≡◌, sym, ap, ◌∙◌}
@@ -51,13 +50,6 @@ highest_water-high-requires c = let s = c.before.before.before in record {
   void_le_most = (curve s).void_high 0 (omega arith);
 }
 
-pub rests-requires : goal.rests-requires
-rests-requires c = let t = ((c.requires.solids_nonzero.0, c.highest_water-high.ensures.1), c.requires.1) in record {
-  solids_nonzero = t.0;
-  least_le_points = t.1.0;
-  stress_value = t.1.1;
-}
-
 pub returns-then-not-rests : goal.returns-then-not-rests
 unfolding resting_answer
 returns-then-not-rests c =
@@ -82,12 +74,8 @@ loop-low-init c =
 pub overflow_add-middle : goal.overflow_add-middle
 overflow_add-middle c = omega (arith, high-most c.before.before)
 
-pub rests-requires-in-loop-low : goal.rests-requires-in-loop-low
-rests-requires-in-loop-low c = let t = let l = c.before.before in (((s l).requires.solids_nonzero.0, omega (arith, high-most l)), (s l).requires.1) in record {
-  solids_nonzero = t.0;
-  least_le_points = t.1.0;
-  stress_value = t.1.1;
-}
+pub rests-requires-in-loop-low-clause-solids_nonzero : goal.rests-requires-in-loop-low-clause-solids_nonzero
+rests-requires-in-loop-low-clause-solids_nonzero c = (c.requires.solids_nonzero.0, omega (arith, high-most c.before.before))
 
 pub loop-low-preserved-then-rests : goal.loop-low-preserved-then-rests
 loop-low-preserved-then-rests c =

@@ -1,15 +1,10 @@
-use Prim.Native.Nat.{ℕ, ◌-◌, ◌≤◌, ◌<◌}
 use native.Mathlib.Omega.{arith}
 use borrow.Author.Count.{below_more}
-use borrow.Author.Rules.{rules}
 use mathlib.Core.Option.{some}
-use mathlib.Core.Path.{◌≡◌, sym, ap, ◌∙◌}
-use Rattle.numbers.specs.Arrays.{filled}
+use mathlib.Core.Path.{sym, ap, ◌∙◌}
 use Rattle.numbers.proofs.Filled.{filled_zero, filled_store}
-use Rattle.rules.specs.Curve.{points}
-use Rattle.rules.specs.Layer.{skeleton_of}
 use Rattle.start.specs.Rest.{all_or_none}
-use Rattle.start.proofs.Filling.{answer_at, answer_nowhere, resting_at, height_at, height_is, filling_stops, filling_ends}
+use Rattle.start.proofs.Filling.{answer_at, answer_nowhere, height_is, filling_stops, filling_ends}
 use Rattle.start.proofs.resting_waters.Goals as goal
 
 pub loop-j-init : goal.loop-j-init

@@ -1,15 +1,10 @@
 use Prim.Native.Nat.{ℕ, ◌-◌, ◌≤◌, ◌<◌}
-use native.Mathlib.Omega.{arith}
-use borrow.Author.Count.{below_more}
-use borrow.Author.Rules.{rules}
 use mathlib.Core.Option.{some}
-use mathlib.Core.Path.{◌≡◌, sym, ap, ◌∙◌}
+use mathlib.Core.Path.{◌≡◌}
 use Rattle.numbers.specs.Arrays.{filled}
-use Rattle.numbers.proofs.Filled.{filled_zero, filled_store}
 use Rattle.rules.specs.Curve.{points}
 use Rattle.rules.specs.Layer.{skeleton_of}
-use Rattle.start.specs.Rest.{all_or_none}
-use Rattle.start.proofs.Filling.{answer_at, answer_nowhere, resting_at, height_at, height_is, filling_stops, filling_ends}
+use Rattle.start.proofs.Filling.{resting_at, height_at}
 use Rattle.start.proofs.resting_waters.Given as goal
 
 abbrev pub invariant-loop-j : goal.invariant-loop-j

@@ -1,5 +1,4 @@
 use Rattle.rules.specs.Start.{at_most}
-use borrow.Author.Rules.{rules}
 use Rattle.start.proofs.rests.Goals as goal
 
 pub returns-in-On : goal.returns-in-On
