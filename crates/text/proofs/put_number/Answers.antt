@@ -1,5 +1,4 @@
 use native.Mathlib.Omega.{arith}
-use borrow.Author.Rules.{rules}
 use Rattle.text.specs.Text.{spaced}
 use Rattle.text.proofs.Laws.{length-decimal, put_put, length_put}
 use Rattle.text.proofs.put_number.Goals as goal

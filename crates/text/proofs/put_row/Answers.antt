@@ -1,8 +1,6 @@
-use Prim.Native.Nat.{◌+◌, ◌-◌, ◌*◌, ◌≤◌}
 use native.Mathlib.Omega.{arith}
-use lib.ListN.{take}
 use mathlib.Core.Path.{◌≡◌}
-use Rattle.text.specs.Text.{row, Put}
+use Rattle.text.specs.Text.{row}
 use Rattle.text.proofs.Laws.{put_nothing, put_put, length_put, row_more}
 use Rattle.text.proofs.put_row.Goals as goal
 
@@ -18,8 +16,8 @@ pub loop-i-preserved : goal.loop-i-preserved
 loop-i-preserved c =
     let put = c.put_number-next.ensures in (
       omega arith,
-      omega (arith, put.1, c.loop-i.invariant.1),
-      rw (row_more c.args.values.now c.loop-i.i (omega (arith, c.requires.n_in_bounds))) (put_put c.loop-i.invariant.2 put.0),
+      omega (arith, put.upper_bound, c.loop-i.invariant.1),
+      rw (row_more c.args.values.now c.loop-i.i (omega (arith, c.requires.n_in_bounds))) (put_put c.loop-i.invariant.2 put.put),
     )
 
 pub returns : goal.returns

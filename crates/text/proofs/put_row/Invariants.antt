@@ -1,9 +1,6 @@
 use Prim.Native.Nat.{◌+◌, ◌-◌, ◌*◌, ◌≤◌}
-use native.Mathlib.Omega.{arith}
 use lib.ListN.{take}
-use mathlib.Core.Path.{◌≡◌}
 use Rattle.text.specs.Text.{row, Put}
-use Rattle.text.proofs.Laws.{put_nothing, put_put, length_put, row_more}
 use Rattle.text.proofs.put_row.Given as goal
 
 abbrev pub invariant-loop-i : goal.invariant-loop-i

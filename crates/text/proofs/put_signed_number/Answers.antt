@@ -1,5 +1,4 @@
 use native.Mathlib.Omega.{arith}
-use borrow.Author.Rules.{rules}
 use Rattle.numbers.proofs.Signed.{read_back}
 use Rattle.text.specs.Text.{signed_spaced}
 use Rattle.text.proofs.Laws.{length_signed, put_put, length_put}

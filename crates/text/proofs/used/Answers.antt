@@ -1,6 +1,4 @@
-use Prim.Native.Nat.{◌≤◌}
 use native.Mathlib.Omega.{arith}
-use lib.ListN.{length, take}
 use lib.Seq.{take-length}
 use mathlib.Core.Path.{◌≡◌, ap, ◌∙◌}
 use Rattle.text.specs.Text.{trimmed}

@@ -1,10 +1,7 @@
 use Prim.Native.Nat.{◌≤◌}
-use native.Mathlib.Omega.{arith}
 use lib.ListN.{length, take}
-use lib.Seq.{take-length}
-use mathlib.Core.Path.{◌≡◌, ap, ◌∙◌}
+use mathlib.Core.Path.{◌≡◌}
 use Rattle.text.specs.Text.{trimmed}
-use Rattle.text.proofs.Laws.{trimmed_less, trimmed-all}
 use Rattle.text.proofs.used.Given as goal
 
 abbrev pub invariant-loop-n : goal.invariant-loop-n
