@@ -13,7 +13,6 @@ use Rattle.numbers.proofs.Signed.{cast_fits, cast_value, read_back}
 use Rattle.rules.specs.Result.{before_clock, head_bytes, word, signed_word}
 use Rattle.rules.specs.declared.answers.Ended.{Ended}
 use Rattle.rules.specs.declared.record.Progress.{Progress}
-use borrow.Author.Rules.{rules}
 use Rattle.result_head.proofs.write_head.Goals as goal
 use Rattle.result_head.proofs.write_head.Lts as lts
 use Rattle.result_head.proofs.write_head.Reads as reads
@@ -129,7 +128,7 @@ unfolding bytes head_bytes
 after-settlement c =
     let s = start (from-settlement c) in
     sets_then s.args.out.now 0 (bottomed s) (signed_word s.args.settlement) (after-bottom c.before.before.before.before) refl
-    (simp (read_back s.fits.settlement) at c.put_signed-3.ensures)
+    (simp (read_back s.ranges.settlement) at c.put_signed-3.ensures)
 
 pub returns : goal.returns
 returns c = after-settlement c.before.before.before

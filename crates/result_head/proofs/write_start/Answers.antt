@@ -1,5 +1,4 @@
 use native.Mathlib.Omega.{arith}
-use borrow.Author.Rules.{rules}
 use lib.ListN.{length-set}
 use Rattle.numbers.specs.Bytes.{bytes}
 use Rattle.result_head.proofs.HeadLaws.{first_stores, stop_fits}
