@@ -1,5 +1,4 @@
 use Rattle.rules.specs.Layer.{top_pressure}
-use borrow.Author.Rules.{rules}
 use Rattle.site_test.proofs.faces_sound.Goals as goal
 
 pub returns : goal.returns

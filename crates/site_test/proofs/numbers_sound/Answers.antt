@@ -1,4 +1,3 @@
-use borrow.Author.Rules.{rules}
 use Rattle.site_test.proofs.numbers_sound.Goals as goal
 
 pub returns : goal.returns

@@ -1,5 +1,3 @@
-use borrow.Author.Rules.{rules}
-use borrow.Author.Tests.{not-true, not-false}
 use mathlib.Core.Bool.{Bool, true, ◌&&◌}
 use mathlib.Core.Path.{◌≡◌, refl, sym, ap, ◌∙◌}
 use Rattle.laws.proofs.SiteFacts.{site_by}
@@ -24,7 +22,7 @@ headed r =
 -- what each test told
 module _ (c : lts.After-numbers_sound tie.the-claims reads.Pre reads.Post tie.handed_clauses) where
   abbrev r : Record
-  r = c.args.t1
+  r = c.args.r
 
   header_is : c.numbers_sound.result ≡ headed r
   header_is = c.numbers_sound.ensures
@@ -44,11 +42,11 @@ module _ (c : lts.Else1 tie.the-claims reads.Pre reads.Post tie.handed_clauses) 
   kept = sound_header _ _ _ _ _ _ _ _ header-true
 
 pub sizes_sound-requires : goal.sizes_sound-requires
-sizes_sound-requires c = (kept c.before.before.before).elements_kept.most
+sizes_sound-requires c = (kept c.before.before).elements_kept.most
 
 module _ (c : lts.After-sizes_sound tie.the-claims reads.Pre reads.Post tie.handed_clauses) where
   abbrev e₁ : lts.Else1 tie.the-claims reads.Pre reads.Post tie.handed_clauses
-  e₁ = c.before.before.before.before
+  e₁ = c.before.before.before
 
   sizes-are : c.sizes_sound.result ≡ sizes_sound (record_site (r₁ e₁)) (record_state (r₁ e₁)).water
   unfolding record_site record_state
@@ -71,7 +69,7 @@ module _ (c : lts.Else2 tie.the-claims reads.Pre reads.Post tie.handed_clauses) 
   sizes = let l = (r₁ e₂).layer in sound_sizes (record_site (r₁ e₂)) l.frame.elements l.solids l.water refl sizes-true
 
 pub curves_sound-requires : goal.curves_sound-requires
-curves_sound-requires c = let k = kept (e₂ c.before.before.before.before.before) in record {
+curves_sound-requires c = let k = kept (e₂ c.before.before.before.before) in record {
   compressibility_le_most = k.compressibility_kept.most;
   least_le_conductivity = (k.conductivity_kept.least, k.conductivity_kept.most);
 }
@@ -82,7 +80,7 @@ curved r = let site = record_site r in compressibility_sound site.compressibilit
 
 module _ (c : lts.After-curves_sound tie.the-claims reads.Pre reads.Post tie.handed_clauses) where
   abbrev e₃ : lts.Else2 tie.the-claims reads.Pre reads.Post tie.handed_clauses
-  e₃ = c.before.before.before.before.before.before
+  e₃ = c.before.before.before.before.before
 
   abbrev r₃ : Record
   r₃ = r₁ (e₂ e₃)
@@ -110,11 +108,11 @@ module _ (c : lts.Else3 tie.the-claims reads.Pre reads.Post tie.handed_clauses) 
   curves-true = sym (curves-are f₃) ∙ c.if-not-curves_sound.false
 
 pub table_sound-requires : goal.table_sound-requires
-table_sound-requires c = (kept (e₂ (e₃ (f₃ c.before.before.before)))).table_kept.most
+table_sound-requires c = (kept (e₂ (e₃ (f₃ c.before.before)))).table_kept.most
 
 module _ (c : lts.After-table_sound tie.the-claims reads.Pre reads.Post tie.handed_clauses) where
   abbrev e₄ : lts.Else3 tie.the-claims reads.Pre reads.Post tie.handed_clauses
-  e₄ = c.before.before.before.before
+  e₄ = c.before.before.before
 
   abbrev r₄ : Record
   r₄ = r₃ (f₃ e₄)
