@@ -1,8 +1,3 @@
-use Rattle.passes.proofs.passes.Goals as goal
-use Rattle.passes.proofs.passes.Lts as lts
-use Rattle.passes.proofs.passes.Reads as reads
-use Rattle.passes.proofs.passes.Tie as tie
--- The loop keeps what it has reached, and arrays of one length.
 use Prim.Native.Nat.{ℕ, ◌+◌, ◌-◌, ◌≤◌, ◌<◌}
 use native.Mathlib.Omega.{arith}
 use borrow.Author.Rules.{rules}
@@ -26,7 +21,9 @@ use Rattle.pass.specs.Passing.{under_table, longest, passed, flows_turned}
 use Rattle.pass.proofs.OnePass as law
 use Rattle.pass.proofs.OnePass.{ending, flows_long, as_long}
 use Rattle.pass.proofs.Reached.{Reached, begins, stands}
-use Rattle.passes.proofs.passes.Statement.{statement}
+use Rattle.passes.proofs.passes.Goals as goal
+use Rattle.passes.proofs.passes.Lts as lts
+use Rattle.passes.proofs.passes.Reads as reads
 use Rattle.passes.proofs.passes.Tie as tie
 
 module _ (c : lts.Start tie.the-claims reads.Pre reads.Post goal.the-invariant-loop-now goal.the-decreases-loop-now tie.handed_clauses) where

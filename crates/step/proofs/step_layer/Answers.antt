@@ -1,0 +1,62 @@
+use Prim.Native.Nat.{ℕ}
+use borrow.Author.Rules.{rules}
+use lib.ListN.{length, length-map}
+use mathlib.Core.List.{List}
+use mathlib.Core.Path.{◌≡◌, sym, ap, ◌∙◌}
+use Rattle.lent_step.specs.Answers.{step_answered}
+use Rattle.lent_step.specs.declared.Stepped.{Stepped}
+use Rattle.lent.proofs.StepLaws.{step_refused}
+use Rattle.rules.specs.Calls.{called}
+use Rattle.rules.specs.declared.answers.Answer.TheVariants.{Done}
+use Rattle.rules.specs.declared.answers.Answered.{Answered}
+use Rattle.rules.specs.declared.answers.Call.TheVariants.{Step}
+use Rattle.rules.specs.declared.record.Record.{Record}
+use Rattle.step.proofs.step_layer.Goals as goal
+use Rattle.step.proofs.step_layer.Lts as lts
+use Rattle.step.proofs.step_layer.Reads as reads
+use Rattle.step.proofs.step_layer.Tie as tie
+
+module _ (c : lts.After-step_lent-arg10 tie.the-claims reads.Pre reads.Post tie.handed_clauses) where
+  abbrev start : lts.Start tie.the-claims reads.Pre reads.Post tie.handed_clauses
+  start = c.before.before.before.before.before.before.before.before.before.before.before.before
+
+  abbrev r : Record
+  r = start.args.r
+
+  long : length r.layer.water ≡ 128
+  long = sym (length-map r.layer.water _) ∙ start.well_formed.0.1.1.1.0.1.1.1.1.1.0.1.0.1
+
+pub step_lent-stepped-requires : goal.step_lent-stepped-requires
+step_lent-stepped-requires c = record {
+  r_value = (start c).requires.r_value;
+  t_value = (start c).requires.t_value;
+  water_len = long c;
+}
+
+-- what the step answers, and the water that it leaves
+module _ (c : lts.After-step_lent tie.the-claims reads.Pre reads.Post tie.handed_clauses) where
+  abbrev a : lts.After-step_lent-arg10 tie.the-claims reads.Pre reads.Post tie.handed_clauses
+  a = c.before
+
+  abbrev water : List ℕ
+  water = c.step_lent-stepped.new.water
+
+  answers : (s : Stepped) → c.step_lent-stepped.result ≡ s → step_answered (r a) s water ≡ called (r a) (Step (start a).args.t)
+  answers s e = ap (λ (x : Stepped). step_answered (r a) x water) (sym e) ∙ c.step_lent-stepped.ensures
+
+pub returns-in-Refused : goal.returns-in-Refused
+unfolding step_answered
+returns-in-Refused c =
+    let m = c.before in
+    let f = m.before in
+    let cause = m.in-Refused.cause in
+    c.refused.ensures ∙
+    step_refused (r (a f)) (start (a f)).args.t cause (start (a f)).requires.r_value (sym (ap (λ (x : Answered). x.answer) (answers f (Stepped.Refused cause) m.in-Refused.is)))
+
+pub returns-in-Done : goal.returns-in-Done
+unfolding step_answered
+returns-in-Done c =
+    let m = c.before in
+    let f = m.before in
+    let progress = m.in-Done.progress in
+    ap (λ (x : Record). record { answer = Done; after = x }) c.with_parts.ensures ∙ answers f (Stepped.Done progress) m.in-Done.is
