@@ -41,9 +41,6 @@ module _ (c : lts.After-new tie.the-claims reads.Pre reads.Post tie.handed_claus
   standing : is_layer r ≡ true
   standing = sym c.is_layer.ensures ∙ c.if-not-is_layer.false
 
-  long : length r.layer.water ≡ 128
-  long = sym (length-map r.layer.water _) ∙ start.well_formed.0.1.1.1.0.1.1.1.1.1.0.1.0.1
-
 pub returns-in-Outside : goal.returns-in-Outside
 returns-in-Outside c = let t = let n = c.before.before in
     let load = (start n).args.load in
@@ -58,6 +55,7 @@ pub returns-in-Within : goal.returns-in-Within
 unfolding with_events after_events after_event with_load record_state
 returns-in-Within c = let t = let p = c.before.before in
     let n = p.before in
+    let long : length c.args.r.layer.water ≡ 128 = search rules in
     let load = (start n).args.load in
     let tells = pressure_tells load (sym p.in-Within.is ∙ n.new.ensures) in
     let set = with_load (pos load) (record_state (r n)) in
@@ -65,7 +63,7 @@ returns-in-Within c = let t = let p = c.before.before in
     let parts : c.with_parts.result ≡ with_parts (r n) (r n).layer.water (loaded (r n).layer.progress (pressure (pos load))) =
     c.with_parts.ensures ∙ ap (with_parts (r n) (r n).layer.water) progress in
     in_numbers (r n) (Load load)
-    (ap (λ (x : Record). record { answer = Done; after = x }) (parts ∙ own_water (r n) set (omega (arith, long n, (counted (r n) (standing n)).1)) refl) ∙
+    (ap (λ (x : Record). record { answer = Done; after = x }) (parts ∙ own_water (r n) set (omega (arith, long, (counted (r n) (standing n)).1)) refl) ∙
     sym (on_layer (r n) (Load load) (record { answer = Done; events = load_set (pos load) ∷ [] }) (standing n) (load_set_lem _ _ load tells.0))) in record {
       value = t.0;
       answer_value = t.1;

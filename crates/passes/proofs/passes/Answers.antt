@@ -85,7 +85,7 @@ pub pass-requires : goal.pass-requires
 pass-requires c = let e = c.before.before.before.before.before.before in
     let h = head e in
     let s = start h in
-    let inv = h.loop.invariant in record {
+    let inv = h.loop-now.invariant in record {
       r_value = stands (at h);
       clock_lt_end = (omega (arith, (at h).early, e.loop-now-test.true), s.requires.clock_le_end.1);
       worked_out = worked h;

@@ -23,15 +23,8 @@ module _ (c : lts.After-step_lent-arg10 tie.the-claims reads.Pre reads.Post tie.
   abbrev r : Record
   r = start.args.r
 
-  long : length r.layer.water ≡ 128
-  long = sym (length-map r.layer.water _) ∙ start.well_formed.0.1.1.1.0.1.1.1.1.1.0.1.0.1
-
-pub step_lent-stepped-requires : goal.step_lent-stepped-requires
-step_lent-stepped-requires c = record {
-  r_value = (start c).requires.r_value;
-  t_value = (start c).requires.t_value;
-  water_len = long c;
-}
+pub step_lent-stepped-requires-clause-r_value : goal.step_lent-stepped-requires-clause-r_value
+step_lent-stepped-requires-clause-r_value c = c.requires.r_value
 
 -- what the step answers, and the water that it leaves
 module _ (c : lts.After-step_lent tie.the-claims reads.Pre reads.Post tie.handed_clauses) where
