@@ -1,0 +1,22 @@
+use Prim.Native.Nat.{◌+◌, ◌-◌, ◌≤◌}
+use native.Mathlib.Omega.{arith}
+use borrow.Author.Rules.{rules}
+use lib.ListN.{length, get_or}
+use mathlib.Core.Path.{◌≡◌, refl, sym, ◌∙◌}
+use Rattle.numbers.specs.Arrays.{filled}
+use Rattle.numbers.proofs.Filled.{filled_zero, filled_store, filled_done, filled-all}
+use Rattle.words.specs.Words.{places_from}
+use Rattle.words.proofs.read_places.Goals as goal
+
+pub loop-i-init : goal.loop-i-init
+loop-i-init c = (omega arith, sym (filled_zero _ _), refl)
+
+pub loop-i-preserved : goal.loop-i-preserved
+loop-i-preserved c =
+    (omega arith, filled_store _ _ _ _ _ (omega arith) c.loop-i.invariant.1 c.word.ensures, search rules)
+
+pub returns : goal.returns
+unfolding places_from
+returns c =
+    let numbers = c.args.numbers.now in
+    filled_done _ _ _ (length numbers) _ c.loop-i.invariant.1 (omega arith) ∙ filled-all numbers (length numbers) _ (omega arith)

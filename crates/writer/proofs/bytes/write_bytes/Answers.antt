@@ -1,0 +1,51 @@
+use native.Mathlib.Omega.{arith}
+use mathlib.Core.Path.{refl}
+use Rattle.job.proofs.Counts.{counted}
+use Rattle.writer.proofs.Stores.{job_stored}
+use Rattle.writer.proofs.bytes.write_bytes.Goals as goal
+
+pub overflow_mul-compressibility_at : goal.overflow_mul-compressibility_at
+overflow_mul-compressibility_at c = omega (arith, counted c.args.header _ c.requires.header_value.0 refl)
+
+pub overflow_add-compressibility_at : goal.overflow_add-compressibility_at
+overflow_add-compressibility_at c = omega (arith, counted c.args.header _ c.requires.header_value.0 refl)
+
+pub overflow_mul-conductivity_at : goal.overflow_mul-conductivity_at
+overflow_mul-conductivity_at c = omega (arith, counted c.args.header _ c.requires.header_value.0 refl)
+
+pub overflow_add-conductivity_at : goal.overflow_add-conductivity_at
+overflow_add-conductivity_at c = omega (arith, counted c.args.header _ c.requires.header_value.0 refl)
+
+pub overflow_mul-table_at : goal.overflow_mul-table_at
+overflow_mul-table_at c = omega (arith, counted c.args.header _ c.requires.header_value.0 refl)
+
+pub overflow_add-table_at : goal.overflow_add-table_at
+overflow_add-table_at c = omega (arith, counted c.args.header _ c.requires.header_value.0 refl)
+
+pub write_header-requires : goal.write_header-requires
+write_header-requires c = omega (arith, counted c.args.header _ c.requires.header_value.0 refl)
+
+pub put_pairs-requires : goal.put_pairs-requires
+put_pairs-requires c =
+    let h = counted c.args.header _ c.requires.header_value.0 refl in
+    (omega arith, omega arith, omega arith)
+
+pub put_pairs-requires-2 : goal.put_pairs-requires-2
+put_pairs-requires-2 c =
+    let h = counted c.args.header _ c.requires.header_value.0 refl in
+    (omega arith, omega arith, omega arith)
+
+pub put_pairs-requires-3 : goal.put_pairs-requires-3
+put_pairs-requires-3 c =
+    let h = counted c.args.header _ c.requires.header_value.0 refl in
+    (omega arith, omega arith, omega arith)
+
+pub put_pairs-requires-4 : goal.put_pairs-requires-4
+put_pairs-requires-4 c =
+    let h = counted c.args.header _ c.requires.header_value.0 refl in
+    (omega arith, omega arith, omega arith)
+
+pub returns : goal.returns
+returns c =
+    job_stored _ c.args.out.now c.write_header.ensures c.put_pairs.ensures c.put_pairs-2.ensures c.put_pairs-3.ensures
+    c.put_pairs-4.ensures c.requires.header_value.1
