@@ -5,7 +5,7 @@
 ghost use Rattle.std.specs.Prelude.{length, true, ◌≡◌, ◌≤◌};
 ghost use Rattle.numbers.specs.Arrays.{overlaid};
 ghost use Rattle.rules.specs.Record.{is_layer};
-ghost use Rattle.rules.specs.Result.{result_bytes, result_size, result};
+ghost use Rattle.rules.specs.Result.{result_bytes, result_size, result as result_of};
 
 use rules::answers::{Ended, Refusal, Stop};
 use rules::record::Record;
@@ -14,7 +14,7 @@ use rules::record::Record;
 pub fn write_layer(r: Record, stop: Stop, steps: u64, out: &mut [u8])
     requires r_value { is_layer r ≡ true }
     requires elements_in_bounds { result_size r.layer.frame.elements ≤ length out.old }
-    ensures* { λ _. ⌜ out.new ≡ overlaid (result_bytes r stop steps) out.old ⌝ }
+    ensures { out.new ≡ overlaid (result_bytes r stop steps) out.old }
 {
     let frame = r.layer.frame;
     let progress = r.layer.progress;
@@ -44,8 +44,8 @@ pub fn write_layer(r: Record, stop: Stop, steps: u64, out: &mut [u8])
 
 // Writes any record's result to a buffer, or refuses.
 pub fn write_result(r: Record, stop: Stop, steps: u64, out: &mut [u8]) -> u32
-    ensures* number_value { λ number. ⌜ number ≡ (result r stop steps out.old).number ⌝ }
-    ensures* out_after { λ _. ⌜ out.new ≡ (result r stop steps out.old).buffer ⌝ }
+    ensures value { result ≡ (result_of r stop steps out.old).number }
+    ensures out_after { out.new ≡ (result_of r stop steps out.old).buffer }
 {
     if !layer_test::is_layer(r) {
         return result::refused(Refusal::NoLayer);
