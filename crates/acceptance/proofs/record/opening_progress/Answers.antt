@@ -1,0 +1,7 @@
+use native.Mathlib.Omega.{arith}
+use borrow.Author.Rules.{rules}
+use Rattle.numbers.proofs.Signed.{read_unsigned}
+use Rattle.acceptance.proofs.record.opening_progress.Goals as goal
+
+pub returns : goal.returns
+returns c = rw (read_unsigned c.args.load (omega arith))
