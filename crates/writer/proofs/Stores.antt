@@ -84,7 +84,7 @@ module _ (d : Description) where
 
   pub job_length_lem : length (job_bytes d) ≡ job_length d.header
   unfolding job_bytes job_length
-  job_length_lem = simp (length-append, header_length_lem, pairs_length) (omega arith)
+  job_length_lem = simp (length-append, pairs_length) (omega arith)
 
   -- all its parts are stored, one after the other
   pub job_stored : (l : List ℕ) {headed first second third fourth : List ℕ} → headed ≡ sets l 0 (header_bytes d.header) →

@@ -1,4 +1,3 @@
-use borrow.Author.Rules.{rules}
 use mathlib.Core.Path.{refl}
 use Rattle.encoding.proofs.Stores.{sets_then}
 use Rattle.numbers.specs.Bytes.{bytes}

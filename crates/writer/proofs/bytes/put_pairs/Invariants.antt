@@ -1,10 +1,7 @@
-use Prim.Native.Nat.{ℕ, ◌-◌, ◌≤◌}
-use native.Mathlib.Omega.{arith}
-use lib.ListN.{length}
-use lib.Seq.{sets, length-sets}
-use mathlib.Core.Path.{◌≡◌, ap, ◌∙◌}
+use Prim.Native.Nat.{◌-◌, ◌≤◌}
+use lib.Seq.{sets}
+use mathlib.Core.Path.{◌≡◌}
 use Rattle.writer.specs.Writing.{pairs_bytes}
-use Rattle.writer.proofs.Stores.{pairs_none, pairs_stored}
 use Rattle.writer.proofs.bytes.put_pairs.Given as goal
 
 abbrev pub invariant-loop-i : goal.invariant-loop-i
