@@ -1,4 +1,3 @@
-use borrow.Author.Rules.{rules}
 use Rattle.words.specs.Words.{words_header}
 use Rattle.words.proofs.read_header.Goals as goal
 

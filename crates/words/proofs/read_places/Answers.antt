@@ -1,9 +1,7 @@
-use Prim.Native.Nat.{◌+◌, ◌-◌, ◌≤◌}
 use native.Mathlib.Omega.{arith}
 use borrow.Author.Rules.{rules}
-use lib.ListN.{length, get_or}
-use mathlib.Core.Path.{◌≡◌, refl, sym, ◌∙◌}
-use Rattle.numbers.specs.Arrays.{filled}
+use lib.ListN.{length}
+use mathlib.Core.Path.{refl, sym, ◌∙◌}
 use Rattle.numbers.proofs.Filled.{filled_zero, filled_store, filled_done, filled-all}
 use Rattle.words.specs.Words.{places_from}
 use Rattle.words.proofs.read_places.Goals as goal

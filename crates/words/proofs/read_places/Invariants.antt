@@ -1,11 +1,7 @@
 use Prim.Native.Nat.{◌+◌, ◌-◌, ◌≤◌}
-use native.Mathlib.Omega.{arith}
-use borrow.Author.Rules.{rules}
 use lib.ListN.{length, get_or}
-use mathlib.Core.Path.{◌≡◌, refl, sym, ◌∙◌}
+use mathlib.Core.Path.{◌≡◌}
 use Rattle.numbers.specs.Arrays.{filled}
-use Rattle.numbers.proofs.Filled.{filled_zero, filled_store, filled_done, filled-all}
-use Rattle.words.specs.Words.{places_from}
 use Rattle.words.proofs.read_places.Given as goal
 
 abbrev pub invariant-loop-i : goal.invariant-loop-i

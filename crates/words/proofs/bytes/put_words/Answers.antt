@@ -1,9 +1,5 @@
-use Prim.Native.Nat.{◌-◌, ◌≤◌}
 use native.Mathlib.Omega.{arith}
-use lib.ListN.{length, take}
-use lib.Seq.{sets}
-use mathlib.Core.Path.{◌≡◌, refl, ◌∙◌}
-use Rattle.words.specs.Words.{bytes_of}
+use mathlib.Core.Path.{refl, ◌∙◌}
 use Rattle.words.proofs.WordBytes.{stored_none, stored_more, stored_all}
 use Rattle.words.proofs.bytes.put_words.Goals as goal
 

@@ -1,10 +1,9 @@
-use Prim.Native.Nat.{◌*◌, ◌-◌, ◌≤◌}
+use Prim.Native.Nat.{◌*◌}
 use native.Mathlib.Omega.{arith}
 use native.Mathlib.Nat.{zero-add}
 use borrow.Author.Rules.{rules}
 use lib.ListN.{length}
-use mathlib.Core.Path.{◌≡◌, refl, sym, ◌∙◌}
-use Rattle.numbers.specs.Arrays.{filled}
+use mathlib.Core.Path.{refl, sym, ◌∙◌}
 use Rattle.numbers.specs.Bytes.{column}
 use Rattle.numbers.proofs.Filled.{filled_zero, filled_store, filled_done, filled-all}
 use Rattle.words.specs.Words.{words_in}

@@ -1,13 +1,8 @@
-use Prim.Native.Nat.{◌*◌, ◌-◌, ◌≤◌}
-use native.Mathlib.Omega.{arith}
-use native.Mathlib.Nat.{zero-add}
-use borrow.Author.Rules.{rules}
+use Prim.Native.Nat.{◌-◌, ◌≤◌}
 use lib.ListN.{length}
-use mathlib.Core.Path.{◌≡◌, refl, sym, ◌∙◌}
+use mathlib.Core.Path.{◌≡◌}
 use Rattle.numbers.specs.Arrays.{filled}
 use Rattle.numbers.specs.Bytes.{column}
-use Rattle.numbers.proofs.Filled.{filled_zero, filled_store, filled_done, filled-all}
-use Rattle.words.specs.Words.{words_in}
 use Rattle.words.proofs.bytes.read_words.Given as goal
 
 abbrev pub invariant-loop-i : goal.invariant-loop-i

@@ -1,4 +1,3 @@
-use borrow.Author.Rules.{rules}
 use mathlib.Core.Path.{sym, ◌∙◌}
 use Rattle.words.proofs.CutFields.{field_past, field_cut}
 use Rattle.words.proofs.bytes.word_at.Goals as goal
