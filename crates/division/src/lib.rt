@@ -70,8 +70,7 @@ pub fn run_to_flows(job: &[u8], r: Record, t: u64, flows: &mut [i64], remainders
 
 // The flows and remainders of a step of so many seconds on the layer that a job's run leaves: their number, and both at the beginning of
 // the buffers; or less than 0 by the number of the cause, and the buffers as they were.
-#[unsafe(no_mangle)]
-pub extern "C" fn consolidation_flows(
+pub fn consolidation_flows(
     job: &[u8],
     seconds: u64,
     flows: &mut [i64],

@@ -37,8 +37,7 @@ pub fn answer_by_key(job: &[u8], res: &mut [u8], readings: &[u64], answers: &mut
 
 // The answers to readings of a job's layer: 0 and five words for each reading of three at the beginning of the buffer, or the number of
 // the cause and the buffer as it was. The pore pressures are those of the job's key.
-#[unsafe(no_mangle)]
-pub extern "C" fn consolidation_readings(job: &[u8], readings: &[u64], answers: &mut [u64]) -> u32
+pub fn consolidation_readings(job: &[u8], readings: &[u64], answers: &mut [u64]) -> u32
     ensures value { result ≡ (job_readings job.now readings.now answers.old).number }
     ensures answers_after { answers.new ≡ (job_readings job.now readings.now answers.old).buffer }
 {

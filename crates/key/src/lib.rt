@@ -83,8 +83,7 @@ pub fn run_to_result<'a>(
 }
 
 // The key of a job: 0 and the result in the buffer, or the number of the cause and the buffer as it was.
-#[unsafe(no_mangle)]
-pub extern "C" fn consolidation_key(job: &[u8], res: &mut [u8]) -> u32
+pub fn consolidation_key(job: &[u8], res: &mut [u8]) -> u32
     ensures value { result ≡ (key job.now res.old).number }
     ensures res_after { res.new ≡ (key job.now res.old).buffer }
 {
