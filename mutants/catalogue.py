@@ -53,11 +53,11 @@ class Mutant:
 
 
 def proof_of(file: str, function: str) -> str:
-    """Where the proof of a function stands if it is written; both paths are below the crate's folder."""
+    """The folder of a function's proof, if it is written; both paths are below the crate's folder."""
     modules = os.path.splitext(file)[0].split(os.sep)[1:]
     if modules in (["lib"], ["main"]):
         modules = []
-    return os.path.join("proofs", *modules, *function.split("::"), "Proof.antt")
+    return os.path.join("proofs", *modules, *function.split("::"))
 
 
 def texts_with(mutants: Sequence[Mutant]) -> Dict[str, str]:
@@ -76,7 +76,7 @@ def one_line(text: str) -> str:
 def crate_names(root: str) -> List[str]:
     with open(os.path.join(root, "crates.txt"), encoding="utf-8") as file:
         lines = [line.split("#")[0] for line in file]
-    return [line.split(":")[0].strip() for line in lines if line.strip()]
+    return [line.split(":")[0].split()[0] for line in lines if line.strip()]
 
 
 def sources_in(folder: str, root: str) -> List[Source]:

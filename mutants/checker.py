@@ -1,10 +1,9 @@
-"""Runs the checker on a crate in a folder, as `rt dev` does, or builds its program, as `rt check` does, and says what
-it answers."""
+"""Runs the checker on a copy of a crate in a folder, as `rt must-fail` does, or builds its program, as `rt run` does, and
+says what it answers."""
 
 from __future__ import annotations
 
 import os
-import platform
 import re
 import shutil
 import signal
@@ -30,10 +29,13 @@ FRONT_END = re.compile(r"^(\S+\.rt:\d+:\d+): error\[[a-z0-9-]+\]: ", re.MULTILIN
 PROOF_ERROR = re.compile(r"^(\S+:\d+:\d+): error: (?:`([^`]*)`: )?(.*(?:\n  .*)*)", re.MULTILINE)
 UNPROVED = re.compile(r"^note: (\S+): it is not proved that ", re.MULTILINE)
 # An error that only follows from another.
-FOLLOWS = re.compile(r"was not admitted \(it has holes or undetermined implicits, or was rejected\)")
-# An error at what the proof expects of the code: a need, a field of what is known at a place, a local of a loop.
+FOLLOWS = re.compile(
+    r"was not admitted \(it has holes or undetermined implicits, or was rejected\)"
+    r"|declarations? that depends? on `[^`]*`, which was rejected"
+)
+# An error at what the proof expects of the code: a goal, a field of what is known at a place, a local of a loop.
 SHAPE = re.compile(
-    r"has no `[^`]*` that can be named from here|has no field `|projects from a record, but this has type"
+    r"has no `[^`]*`|has no field `|is not in scope|projects from a record, but this has type"
     r"|this pattern needs a function \(or path\) type"
 )
 
@@ -88,13 +90,13 @@ class Kit:
         if rt is None:
             raise CheckerError("the Rattle kit is not installed: there is no command 'rt'")
         self.root = root
-        self.home = os.environ.get("RATTLE_HOME") or os.path.dirname(os.path.dirname(os.path.realpath(rt)))
-        self.own = os.path.join(self.home, "on", platform.machine())
-        self.tools = os.path.join(self.own, "toolchain")
-        self.rlibs = os.path.join(root, "target", "rlib")
+        self.home = os.path.dirname(os.path.dirname(os.path.realpath(rt)))
+        self.tools = os.path.join(self.home, "toolchain")
+        self.rlibs = os.path.join(self.home, "rlibs")
 
     def prove_all(self) -> None:
-        ended = subprocess.run(["rt", "check"], cwd=self.root, capture_output=True, text=True, errors="replace")
+        words = ["rt", "all", "check"]
+        ended = subprocess.run(words, cwd=self.root, capture_output=True, text=True, errors="replace")
         if ended.returncode != 0:
             raise CheckerError(f"{ended.stdout}{ended.stderr}the crates are not proved as they are")
 
@@ -102,51 +104,70 @@ class Kit:
         with open(os.path.join(self.root, "crates.txt"), encoding="utf-8") as file:
             for line in file:
                 name, colon, rest = line.split("#")[0].partition(":")
-                if colon and name.strip() == crate:
+                if colon and name.split()[:1] == [crate]:
                     return rest.split()
         raise CheckerError(f"crates.txt does not list {crate}")
+
+    def is_ours(self, name: str) -> bool:
+        return os.path.isdir(os.path.join(self.root, "crates", name, "src"))
+
+    def below(self, crate: str) -> List[str]:
+        """The repository's libraries below a crate, each once."""
+        found: List[str] = []
+        for name in filter(self.is_ours, self.dependencies(crate)):
+            found += [one for one in (*self.below(name), name) if one not in found]
+        return found
+
+    def library(self, crate: str) -> str:
+        return os.path.join(self.root, "crates", crate, "out", "rlib", f"{crate}.rlib")
 
     def is_program(self, crate: str) -> bool:
         return os.path.isfile(os.path.join(self.root, "crates", crate, "src", "main.rt"))
 
-    def words(self, verb: str, crate: str, folder: str, incremental: str) -> List[str]:
-        """The command that `rt` runs, on a crate in a folder, over an incremental folder."""
-        roots = [os.path.join(folder, "src", name) for name in ("main.rt", "lib.rt")]
-        found = [os.path.join(self.own, "bin", "rattle"), verb, "--crate-name", crate]
-        found += [next(root for root in roots if os.path.isfile(root))]
-        found += ["--extern", f"std={self.own}/rlib/std.rlib"]
-        for name in self.dependencies(crate):
-            ours = os.path.isdir(os.path.join(self.root, "crates", name, "src"))
-            found += ["--extern", f"{name}={self.rlibs if ours else self.own + '/rlib'}/{name}.rlib"]
-        found += ["-L", f"dependency={self.rlibs}", "-L", f"dependency={self.own}/rlib"]
-        found += ["--antt-project", f"{self.home}/logic/antt-project.json"]
-        return found + ["--logic-built", f"{self.own}/logic-built", "--incremental", incremental]
+    def words(self, verb: str, crate: str, incremental: str) -> List[str]:
+        """The command that `rt` runs in a crate's folder, over an incremental folder."""
+        found = [os.path.join(self.home, "bin", "rattle"), verb, "--crate-name", crate]
+        found += [os.path.join("src", "main.rt" if self.is_program(crate) else "lib.rt")]
+        for name in dict.fromkeys((*self.dependencies(crate), "std")):
+            found += ["--extern", f"{name}={self.library(name) if self.is_ours(name) else f'{self.rlibs}/{name}.rlib'}"]
+        for folder in (self.rlibs, *(os.path.dirname(self.library(name)) for name in self.below(crate))):
+            found += ["-L", f"dependency={folder}"]
+        found += ["--antt-project", f"{self.home}/rattle/logic/antt-project.json"]
+        found += ["--logic-built", f"{self.home}/logic_built", "--jobs", "1", "--links", f"{crate}="]
+        if self.is_static(crate):
+            found += ["--crate-type", "staticlib"]
+        return found + ["--incremental", incremental]
+
+    def is_static(self, crate: str) -> bool:
+        with open(os.path.join(self.root, "crates.txt"), encoding="utf-8") as file:
+            return any(line.partition(":")[0].split() == [crate, "staticlib"] for line in file)
 
     def check(self, crate: str, folder: str, incremental: str) -> Verdict:
-        return asked(self.words("check", crate, folder, incremental), os.path.dirname(incremental))
+        return asked(self.words("check", crate, incremental), folder, os.path.dirname(incremental))
 
     def build(self, crate: str, folder: str, incremental: str, program: str) -> Verdict:
         """The checker's verdict on a program, which is also compiled and linked where it is proved."""
         tools = ["--toolchain", self.tools]
-        words = self.words("build", crate, folder, incremental)
-        found = asked(words + tools + ["-o", f"{program}.o"], os.path.dirname(incremental))
+        words = self.words("build", crate, incremental) + tools + ["--backend", "llvm", "-o", f"{program}.o"]
+        found = asked(words, folder, os.path.dirname(incremental))
         if found.answer != PROVED:
             return found
-        link = [os.path.join(self.own, "bin", "rattle-link"), "--target", "x86_64-unknown-linux-gnu"]
+        link = [os.path.join(self.home, "bin", "rattle-link"), "--target", "x86_64-unknown-linux-gnu"]
         link += tools + ["-o", program, f"{program}.o"]
-        if "os" in self.dependencies(crate):
-            link.append(os.path.join(self.home, "lib", "libos_c.a"))
+        link += [os.path.join(self.home, "c", name) for name in ("libos_c.a", "liblibc_c.a")]
         ended = subprocess.run(link, stdin=subprocess.DEVNULL, stdout=subprocess.PIPE, stderr=subprocess.STDOUT)
         said = found.said + ended.stdout.decode("utf-8", "replace")
         return Verdict(PROVED if ended.returncode == 0 else NOT_TOLD, said)
 
 
-def asked(words: List[str], room: str) -> Verdict:
-    """What the checker answers to a command. What it writes only for itself stands in a folder while it runs."""
+def asked(words: List[str], folder: str, room: str) -> Verdict:
+    """What the checker answers to a command in a crate's folder. What it writes only for itself stands in another while it
+    runs."""
     limited = ["sh", "-c", 'ulimit -t "$0" && exec "$@"', str(SECONDS)]
     try:
         ended = subprocess.run(
             limited + words,
+            cwd=folder,
             env={**os.environ, "TMPDIR": room},
             stdin=subprocess.DEVNULL,
             stdout=subprocess.PIPE,

@@ -1,4 +1,4 @@
-"""Builds a program and runs it as the gate does: by `rt check` on its stored input, and by its test in
+"""Builds a program and runs it as the gate does: by `rt ci` on its stored input, and by its test in
 `./kufandra test`. What it then does otherwise is told."""
 
 from __future__ import annotations
@@ -105,8 +105,6 @@ def judged(kit: Kit, crate: str, folder: str, incremental: str) -> Verdict:
         found = kit.build(crate, folder, incremental, built)
         if found.answer != PROVED:
             return found
-        loader = [os.path.join(kit.tools, "lib", "ld-linux-x86-64.so.2"), "--library-path"]
-        loader.append(os.path.join(kit.tools, "lib"))
-        fault = fault_of_run(loader, built, os.path.join(kit.root, "crates", crate))
+        fault = fault_of_run([], built, os.path.join(kit.root, "crates", crate))
         fault = fault or fault_of_test(kit.root, TESTS[crate], built)
     return Verdict(BY_OUTPUT, f"{found.said}{fault}\n") if fault else found

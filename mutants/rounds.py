@@ -6,10 +6,10 @@ change of one body reaches the proof of another function only where that cites a
 and there the checker says just this. Nor does it stop at the first error: it says those of every proof. What it says
 against a function besides therefore comes from the change in this function, and it would say so of this change alone.
 
-A round decides only on a mutant that it refuses at a fact: a need of the mutant's own function is refused for what it
-says, by an error in this function's proof or, where the checker makes the proof, by a note at this function's code.
+A round decides only on a mutant that it refuses at a fact: a goal of the mutant's own function is refused for what it
+says, by an error in this function's proof or, where the checker finds the proof, by a note at this function's code.
 Of any other mutant a round tells nothing, and it is judged alone. So whatever survives has passed a check of its own.
-Where a need is refused of anything that was not changed, a round decides nothing at all.
+Where a goal is refused of anything that was not changed, a round decides nothing at all.
 """
 
 from __future__ import annotations
@@ -24,8 +24,10 @@ from checker import AT_A_FACT, FRONT_END, NO_PROGRAM, Verdict, facts
 from source import read_source
 
 PLACE = re.compile(r"(.+):(\d+):\d+")
+# The files of a function's proof.
+WRITTEN = ("Answers.antt", "Invariants.antt", "Proof.antt")
 # The folder of the proof of a function that calls itself.
-CYCLE_OF_ONE = re.compile(r"\+([^+/]+)(?=/Proof\.antt$)")
+CYCLE_OF_ONE = re.compile(r"\+([^+/]+)$")
 
 
 @dataclass(frozen=True)
@@ -48,14 +50,16 @@ def next_round(left: List[Mutant], alone: Set[Mutant]) -> List[Mutant]:
 
 
 def owner(place: str, folder: str, texts: Dict[str, str]) -> Optional[str]:
-    """The path of the proof that a place belongs to: of the file that it is in or, in the code of a changed file, of the
-    proof of the function there."""
+    """The folder of the proof that a place belongs to: the one that its file stands in or, in the code of a changed file,
+    that of the function there; of another file its own path."""
     found = PLACE.fullmatch(place)
     if found is None:
         return None
     file = os.path.relpath(os.path.join(folder, found.group(1)), folder)
     if file not in texts:
-        return CYCLE_OF_ONE.sub(r"\1", file)
+        proof, name = os.path.split(file)
+        is_of_function = name in WRITTEN and proof != "proofs"
+        return CYCLE_OF_ONE.sub(r"\1", proof) if is_of_function else file
     names = read_source(file, texts[file]).names_at(int(found.group(2)))
     return proof_of(file, names[0]) if len(names) == 1 else None
 

@@ -20,7 +20,7 @@ TOKEN = re.compile(
 )
 
 # Text of contracts, `ghost use` lines and comments. A clause ends at the brace that closes it.
-CLAUSE = re.compile(r"\b(?:requires|ensures|ghost)\s*\{")
+CLAUSE = re.compile(r"\b(?:requires|ensures|ghost)\b\*?(?:\s+\w+(?=\s*[:{]))?\s*:?\s*\{")
 SKIPPED = re.compile(r"//[^\n]*|\bghost\s+use\b[^;]*;|b?\"(?:\\.|[^\"\\])*\"|" + CLAUSE.pattern)
 
 KEYWORDS = frozenset(

@@ -38,7 +38,7 @@ pub fn put<'a>(out: &mut [u64], of: &'a [u64; 64], at: usize, n: u64, m: u64) {}
 
 CONTRACTS = """\
 // 1 + 2
-ghost use lib.ListN.{length};
+ghost use Rattle.std.specs.Prelude.{length};
 use rules::Face;
 
 const ROOM: usize = 56;
@@ -47,9 +47,10 @@ impl Head {
     pub const MOST: u64 = 200;
 
     pub fn holds<'a>(n: u64, xs: &'a [u64; 64]) -> [u64; 2]
-        ghost { Record }
-        requires { λ layer. ⌜ n + 1 ≤ 2 ⌝ × record { a = 1; b = { 2 } } }
-        ensures { λ r. ⌜ r ≡ n ⌝ }
+        ghost layer: { Record }
+        requires low { n + 1 ≤ 2 × record { a = 1; b = { 2 } } }
+        ensures same { result ≡ n }
+        ensures* { lies_at n }
     {
         n + 3 // 4
     }
@@ -60,7 +61,7 @@ fn main() {}
 
 
 def function(body: str) -> str:
-    return f"fn f(a: u64) -> u64\n    ensures {{ λ r. ⌜ r < a ⌝ }}\n{{\n{body}\n}}\n"
+    return f"fn f(a: u64) -> u64\n    ensures low {{ result < a }}\n{{\n{body}\n}}\n"
 
 
 def source_of(body: str) -> Source:
@@ -76,7 +77,7 @@ def results(body: str, kind: str = "") -> List[str]:
     """The bodies that the changes of a kind give."""
     source = source_of(body)
     texts = [applied(source, change) for change in changes(body, kind)]
-    return [text[text.index("⌝ }\n{\n") + 6 : -3] for text in texts]
+    return [text[text.index("< a }\n{\n") + 8 : -3] for text in texts]
 
 
 class Bodies(unittest.TestCase):
@@ -91,13 +92,13 @@ class Bodies(unittest.TestCase):
         for body in source.bodies:
             for change in changes_of(source, body, Declared([source])):
                 text = applied(source, change)
-                self.assertIn("⌜ n + 1 ≤ 2 ⌝ × record { a = 1; b = { 2 } }", text)
+                self.assertIn("low { n + 1 ≤ 2 × record { a = 1; b = { 2 } } }", text)
                 self.assertTrue(text.startswith("// 1 + 2\n"))
 
     def test_only_a_function_with_an_ensures_promises(self) -> None:
         source = read_source("a.rt", CONTRACTS)
         self.assertEqual([False, False, True, False], [body.promised for body in source.bodies])
-        text = "fn f(a: u64) // ensures { a }\n    requires { ⌜ a < 2 ⌝ }\n{ a; }\n" + function("a")
+        text = "fn f(a: u64) // ensures { a }\n    requires { a < 2 }\n{ a; }\n" + function("a")
         self.assertEqual([False, True], [body.promised for body in read_source("a.rt", text).bodies])
 
     def test_what_a_function_does_with_files_is_not_promised(self) -> None:
@@ -105,7 +106,7 @@ class Bodies(unittest.TestCase):
             self.assertEqual(promised, source_of(text).bodies[-1].promised)
 
     def test_what_is_no_source_is_refused(self) -> None:
-        for text in ("fn f() { λ }", "fn f() { (] }", "fn f() {", "fn f() ensures { ⌜ ⌝ {}"):
+        for text in ("fn f() { λ }", "fn f() { (] }", "fn f() {", "fn f() ensures { a {}"):
             with self.assertRaises(SourceError):
                 read_source("a.rt", text)
 
@@ -259,16 +260,18 @@ class Verdicts(unittest.TestCase):
         return checker.verdict(status, said).answer
 
     def test_answers(self) -> None:
-        at = "p/Proof.antt:1:2: error: "
+        at = "./proofs/f/Answers.antt:1:2: error: "
         fact = f"{at}`returns`: expected type `a`, but this has type `b`\n"
-        name = f"{at}`add`: `tie.Need-add`: module `M` has no `Need-add` that can be named from here\n"
+        name = f"{at}`add`: `goal.add`: module `M` has no `add` that can be named from here\n"
         follows = f"{at}`g`: `f` was not admitted (it has holes or undetermined implicits, or was rejected), so\n"
         self.assertEqual(checker.PROVED, self.answer(0, "fn f: proved\nlogic=proved functions=1\n"))
         self.assertEqual(checker.AT_A_FACT, self.answer(1, fact + follows + "logic=not-proved\n"))
         self.assertEqual(checker.AT_A_FACT, self.answer(1, name + fact + "logic=not-proved\n"))
         self.assertEqual(checker.BY_SHAPE, self.answer(1, name + follows + "logic=not-proved\n"))
+        laws = "./proofs/Laws.antt:9:1: error: 1 declaration that depends on `f`, which was rejected, was not checked: g\n"
+        self.assertEqual(checker.BY_SHAPE, self.answer(1, name + laws + "logic=not-proved\n"))
         field = f"{at}`returns`: record `At`\n  has no field `before`\n"
-        spec = f"{at}`f-spec`: expected type `tie.Need-a`, but this has type `tie.Need-b`\n"
+        spec = f"{at}`f-spec`: expected type `goal.a`, but this has type `goal.b`\n"
         self.assertEqual(checker.BY_SHAPE, self.answer(1, field + spec + "logic=not-proved\n"))
         made = "note: src/lib.rt:1:2: it is not proved that the product fits its type (`mul`)\n"
         self.assertEqual(checker.AT_A_FACT, self.answer(1, made + "logic=not-proved\n"))
@@ -286,19 +289,21 @@ FILES = {
     "lib.rt": function("    g(\n        a,\n    );\n    a + 1") + function("    a - 2").replace("fn f", "fn g"),
     "checks.rt": "impl Head {\n" + function("    a + 3") + "}\n\n" + function("    a + 4"),
 }
-F, G, HEAD_F, CHECKS_F = (f"proofs/{path}/Proof.antt" for path in ("f", "g", "checks/Head/f", "checks/f"))
+F, G, HEAD_F, CHECKS_F = (f"proofs/{path}" for path in ("f", "g", "checks/Head/f", "checks/f"))
 FOLDER = "/bench/one"
 FACT = "`returns`: expected type `a`, but this has type `b`"
-SHAPED = "`add`: module `M` has no `Need-add` that can be named from here"
+SHAPED = "`add`: module `M` has no `add` that can be named from here"
 FOLLOWING = "`returns`: `h` was not admitted (it has holes or undetermined implicits, or was rejected), so"
 
 
 def error_in(path: str, words: str = FACT) -> str:
-    return f"{FOLDER}/{path}:1:2: error: {words}\n"
+    """An error in a file, or in the answers of a function's proof."""
+    file = path if path.endswith(".antt") else f"{path}/Answers.antt"
+    return f"./{file}:1:2: error: {words}\n"
 
 
 def note_at(place: str) -> str:
-    return f"note: {FOLDER}/{place}: it is not proved that the sum fits its type (`add`)\n"
+    return f"note: {place}: it is not proved that the sum fits its type (`add`)\n"
 
 
 class Rounds(unittest.TestCase):
@@ -340,14 +345,17 @@ class Rounds(unittest.TestCase):
                 for source in catalogue.sources_of(ROOT, crate)
                 for body in source.bodies
             }
-            for path in glob.glob(os.path.join(folder, "proofs", "**", "Proof.antt"), recursive=True):
-                self.assertIn(rounds.owner(f"{path}:1:1", folder, {}), proofs)
+            for name in rounds.WRITTEN:
+                for path in glob.glob(os.path.join(folder, "proofs", "*", "**", name), recursive=True):
+                    self.assertIn(rounds.owner(f"{path}:1:1", folder, {}), proofs)
 
     def test_an_error_in_a_proof_decides_on_its_function(self) -> None:
         for proof in (F, G, HEAD_F, CHECKS_F):
             self.assert_decided([proof], error_in(proof))
         self.assert_decided([G, CHECKS_F], error_in(CHECKS_F) + error_in(F, FOLLOWING) + error_in(G))
-        self.assert_decided([G], error_in("proofs/+g/Proof.antt"))
+        for name in rounds.WRITTEN:
+            self.assert_decided([G], error_in(f"proofs/g/{name}"))
+            self.assert_decided([G], error_in(f"proofs/+g/{name}"))
 
     def test_an_error_that_follows_or_is_of_the_shape_decides_nothing(self) -> None:
         for words in (FOLLOWING, SHAPED, FACT.replace("returns", "f-spec")):
@@ -361,14 +369,14 @@ class Rounds(unittest.TestCase):
             self.assert_decided([proof], note_at(f"src/checks.rt:{line}:1"))
 
     def test_nothing_is_decided_where_something_else_is_refused(self) -> None:
-        others = ("proofs/Laws.antt", "proofs/h/Proof.antt", "proofs/Head/f/Proof.antt", "proofs/+f+g/Proof.antt")
+        others = ("proofs/Laws.antt", "proofs/Invariants.antt", "proofs/h", "proofs/Head/f", "proofs/+f+g", "proofs/g/Other.antt")
         for other in others:
             self.assert_decided([], error_in(G) + error_in(other))
         for place in ("src/lib.rt:99:1", "src/checks.rt:8:1", "src/other.rt:1:1", "src/lib.rt"):
             self.assert_decided([], error_in(G) + note_at(place))
 
     def test_what_is_no_program_leaves_the_round(self) -> None:
-        named = f"{FOLDER}/src/lib.rt:7:1: error[mismatched-types]: expected `i64`\n"
+        named = "src/lib.rt:7:1: error[mismatched-types]: expected `i64`\n"
         self.assertEqual([[], [G], [F, HEAD_F, CHECKS_F]], self.told(1, named))
         unnamed = named.replace(":7:", ":99:")
         self.assertEqual([[], [F, G, HEAD_F, CHECKS_F], []], self.told(1, unnamed))
@@ -423,7 +431,7 @@ class Runs(unittest.TestCase):
         """Where the function of a mutant stands when some are applied."""
         source = read_source(mutant.file, texts_with(some)[mutant.file])
         body = next(body for body in source.bodies if body.name == mutant.function)
-        return f"{FOLDER}/{mutant.file}:{source.line(source.tokens[body.first].start)}:1"
+        return f"{mutant.file}:{source.line(source.tokens[body.first].start)}:1"
 
     def results(self, jobs: int) -> Dict[Mutant, str]:
         def primed(_kit: object, _crate: str, folder: str) -> mock.Mock:
@@ -468,7 +476,7 @@ class Memory(unittest.TestCase):
         self.assertIsNone(self.place(2 * checker.ROOM // 4096, {"TMPDIR": "/elsewhere"}))
 
     def test_the_checker_writes_where_it_is_told(self) -> None:
-        self.assertEqual("/room\n", checker.asked(["sh", "-c", 'echo "$TMPDIR"'], "/room").said)
+        self.assertEqual("/usr /room\n", checker.asked(["sh", "-c", 'echo "$PWD $TMPDIR"'], "/usr", "/room").said)
 
 
 class Programs(unittest.TestCase):
@@ -525,6 +533,32 @@ class Programs(unittest.TestCase):
             gate = file.read()
         for name, words in program.TESTS.items():
             self.assertIn(f" {' '.join(words)} target/bin/{name}\n", gate)
+
+
+class Kits(unittest.TestCase):
+    """What the checker is asked of this repository's crates."""
+
+    def setUp(self) -> None:
+        with mock.patch.object(checker.shutil, "which", return_value="/kit/bin/rt"):
+            self.kit = checker.Kit(ROOT)
+
+    def test_the_libraries_below_a_crate_stand_each_after_its_own(self) -> None:
+        self.assertEqual(["numbers", "quantities", "rules"], self.kit.below("rules")[:2] + ["rules"])
+        for crate in catalogue.crate_names(ROOT):
+            found = self.kit.below(crate)
+            self.assertEqual(len(found), len(set(found)))
+            for at, name in enumerate(found):
+                self.assertLessEqual(set(self.kit.below(name)), set(found[:at]))
+
+    def test_what_the_checker_is_asked(self) -> None:
+        for crate in catalogue.crate_names(ROOT):
+            words = self.kit.words("check", crate, "/kept")
+            self.assertEqual(["/kit/bin/rattle", "check", "--crate-name", crate], words[:4])
+            self.assertTrue(os.path.isfile(os.path.join(ROOT, "crates", crate, words[4])))
+            for name in self.kit.dependencies(crate):
+                self.assertEqual(1, sum(word.startswith(f"{name}=") and word.endswith(f"/{name}.rlib") for word in words))
+            self.assertEqual(["--incremental", "/kept"], words[-2:])
+            self.assertEqual(crate in ("key_c", "division_c"), "staticlib" in words)
 
 
 class Judges(unittest.TestCase):
