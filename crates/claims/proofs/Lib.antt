@@ -14,6 +14,7 @@ pub mod Fixed
 pub mod Stands
 pub mod Described
 pub mod Starts
+pub mod StartedParts
 pub mod Opened
 -- lists of calls
 pub mod Answers

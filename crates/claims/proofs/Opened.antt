@@ -14,7 +14,8 @@ use Rattle.claims.proofs.Described.{Described, described_sound, fixed_opened}
 use Rattle.claims.proofs.Fixed.{sound_site, water_limited, own_places}
 use Rattle.claims.proofs.Kept.{SoundSite, Kept}
 use Rattle.claims.proofs.Stands.{Stands}
-use Rattle.claims.proofs.Starts.{Starts, water_starts, started_parts}
+use Rattle.claims.proofs.Starts.{Starts, water_starts}
+use Rattle.claims.proofs.StartedParts.{started_parts}
 use Rattle.laws.proofs.Every.{every_at}
 use Rattle.numbers.proofs.Filled.{first_length}
 use Rattle.numbers.proofs.Interval.{within_pos, within_le}

@@ -7,7 +7,7 @@ use lib.ListN.{length}
 use mathlib.Core.Bool.{Bool, true, false, cond}
 use mathlib.Core.List.{List, [], ◌∷◌, map}
 use mathlib.Core.Option.{Option, none, some}
-use mathlib.Core.Path.{◌≡◌, refl, sym, ap, subst, ◌∙◌}
+use mathlib.Core.Path.{◌≡◌, refl, ap, subst}
 use Rattle.claims.proofs.Causes.{none_some}
 use Rattle.numbers.specs.Lists.{least}
 use Rattle.numbers.proofs.Searches.{passed, joined}
@@ -19,7 +19,6 @@ use Rattle.rules.specs.Opening.{started_with, not_started, description_water, st
 use Rattle.rules.specs.Start.{at_most, resting_water, last_stress, resting_under, resting_from, start_water}
 use Rattle.rules.specs.Step.{on_curve, all_on_curve}
 use Rattle.rules.proofs.Resting.{at_most_parts}
-use Rattle.rules.specs.declared.answers.Refusal.{Refusal}
 use Rattle.rules.specs.declared.answers.Refusal.TheVariants.{StartOffCurve, StartNotSteady}
 
 -- the least that passes a test passes it
@@ -115,24 +114,3 @@ module _ (d : Description) where
     pub steady-started : start_steady d water ≡ true → started d ≡ started_with water
     unfolding started
     steady-started s = rw (e, s, started)
-
-  not_with : (cause : Refusal) (water : List ℕ) → not_started cause ≡ started_with water → ⊥
-  not_with cause water e = let z : ◌≡◌ {A = ℕ} 0 1 = cc in omega arith
-
-  with_same : (found water : List ℕ) → started_with found ≡ started_with water → found ≡ water
-  with_same found water e = cc
-
-  -- water that neither 9 nor 20 refuses
-  pub started_parts : (water : List ℕ) → started d ≡ started_with water → (description_water d ≡ some water) × (start_steady d water ≡ true)
-  started_parts water e = found (description_water d) refl
-    where
-      steadied : (found : List ℕ) → description_water d ≡ some found → (c : Bool) → start_steady d found ≡ c →
-          (description_water d ≡ some water) × (start_steady d water ≡ true)
-      steadied found p true s =
-          let same = with_same found water (sym (steady-started found p s) ∙ e) in
-          (p ∙ ap some same, subst (λ (w : List ℕ). start_steady d w ≡ true) same s)
-      steadied found p false s = absurd (not_with StartNotSteady water (sym (unsteady_started found p s) ∙ e))
-
-      found : (o : Option (List ℕ)) → description_water d ≡ o → (description_water d ≡ some water) × (start_steady d water ≡ true)
-      found none p = absurd (not_with StartOffCurve water (sym (off_started p) ∙ e))
-      found (some W) p = steadied W p (start_steady d W) refl
