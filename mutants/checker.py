@@ -145,15 +145,23 @@ class Kit:
     def check(self, crate: str, folder: str, incremental: str) -> Verdict:
         return asked(self.words("check", crate, incremental), folder, os.path.dirname(incremental))
 
+    def compiled(self, path: str) -> List[str]:
+        return ["--toolchain", self.tools, "--backend", "llvm", "-o", path]
+
+    def archive(self, crate: str, incremental: str, path: str) -> Verdict:
+        """The checker's verdict on a static library as it is, whose archive is written where it is proved."""
+        words = self.words("build", crate, incremental) + self.compiled(path)
+        folder = os.path.join(self.root, "crates", crate)
+        return asked(words, folder, os.path.dirname(incremental))
+
     def build(self, crate: str, folder: str, incremental: str, program: str) -> Verdict:
         """The checker's verdict on a program, which is also compiled and linked where it is proved."""
-        tools = ["--toolchain", self.tools]
-        words = self.words("build", crate, incremental) + tools + ["--backend", "llvm", "-o", f"{program}.o"]
+        words = self.words("build", crate, incremental) + self.compiled(f"{program}.o")
         found = asked(words, folder, os.path.dirname(incremental))
         if found.answer != PROVED:
             return found
         link = [os.path.join(self.home, "bin", "rattle-link"), "--target", "x86_64-unknown-linux-gnu"]
-        link += tools + ["-o", program, f"{program}.o"]
+        link += ["--toolchain", self.tools, "-o", program, f"{program}.o"]
         link += [os.path.join(self.home, "c", name) for name in ("libos_c.a", "liblibc_c.a")]
         ended = subprocess.run(link, stdin=subprocess.DEVNULL, stdout=subprocess.PIPE, stderr=subprocess.STDOUT)
         said = found.said + ended.stdout.decode("utf-8", "replace")
