@@ -18,6 +18,7 @@ HERE = os.path.dirname(os.path.abspath(__file__))
 ROOT = os.path.dirname(HERE)
 sys.path.insert(0, HERE)
 
+import archive  # noqa: E402
 import bench  # noqa: E402
 import catalogue  # noqa: E402
 import checker  # noqa: E402
@@ -559,6 +560,18 @@ class Kits(unittest.TestCase):
                 self.assertEqual(1, sum(word.startswith(f"{name}=") and word.endswith(f"/{name}.rlib") for word in words))
             self.assertEqual(["--incremental", "/kept"], words[-2:])
             self.assertEqual(crate in ("key_c", "division_c"), "staticlib" in words)
+
+    def test_an_archive_is_made_of_a_static_library_as_it_is(self) -> None:
+        proved = checker.Verdict(checker.PROVED, "")
+        with mock.patch.object(checker, "asked", return_value=proved) as asked:
+            self.assertEqual(proved, self.kit.archive("key_c", "/room/kept", "/made.a"))
+            words, folder, room = asked.call_args.args
+            self.assertEqual((os.path.join(ROOT, "crates", "key_c"), "/room"), (folder, room))
+            self.assertEqual(("build", "/made.a"), (words[1], words[-1]))
+            with mock.patch.object(archive, "Kit", return_value=self.kit), contextlib.redirect_stdout(io.StringIO()):
+                self.assertEqual(0, archive.main(["division_c", "/made.a"]))
+                with self.assertRaises(checker.CheckerError):
+                    archive.main(["key", "/made.a"])
 
 
 class Judges(unittest.TestCase):
