@@ -7,7 +7,7 @@ ghost use Rattle.compose.specs.Composed.{job_most, composed};
 ghost use Rattle.numbers.specs.Arrays.{overlaid, zeros};
 
 use job::header::HEADER_LENGTH;
-use libc::{STDIN_FILENO, STDOUT_FILENO};
+use std::io;
 
 // How many words a description has.
 const WORDS: usize = 652;
@@ -29,10 +29,10 @@ fn answer(input: &[u8], out: &mut [u8]) -> usize
     number as usize
 }
 
-fn main() {
+fn main(rt: HostRuntime) -> io::Result<()> {
     let mut input = [0u8; 8192];
-    let read = io::read_full(STDIN_FILENO, &mut input);
+    let read = streams::read_full(&mut rt.stdin(), &mut input)?;
     let mut out = [0u8; ROOM];
     let written = answer(&input[..read], &mut out);
-    io::write_all(STDOUT_FILENO, &out[..written]);
+    rt.write_all(&out[..written])
 }

@@ -7,7 +7,7 @@ ghost use Rattle.numbers.specs.Arrays.{overlaid, zeros};
 ghost use Rattle.rules.specs.Program.{input_most, program_output};
 ghost use Rattle.rules.specs.Result.{result_most};
 
-use libc::{STDIN_FILENO, STDOUT_FILENO};
+use std::io;
 
 // The most bytes of a result.
 const ROOM: usize = 5_176;
@@ -24,10 +24,10 @@ fn answer(job: &[u8], out: &mut [u8]) -> usize
     result::result_size(encoding::byte(job, 7) as usize)
 }
 
-fn main() {
+fn main(rt: HostRuntime) -> io::Result<()> {
     let mut input = [0u8; 8192];
-    let read = io::read_full(STDIN_FILENO, &mut input);
+    let read = streams::read_full(&mut rt.stdin(), &mut input)?;
     let mut out = [0u8; ROOM];
     let written = answer(&input[..read], &mut out);
-    io::write_all(STDOUT_FILENO, &out[..written]);
+    rt.write_all(&out[..written])
 }

@@ -10,9 +10,9 @@ ghost use Rattle.numbers.specs.Bytes.{field};
 ghost use Rattle.rules.specs.Program.{input_most, refused_line};
 ghost use Rattle.rules.specs.Refusals.{refusal_number};
 
-use libc::{STDIN_FILENO, STDOUT_FILENO};
 use rules::answers::{Answer, Refusal};
 use rules::record::Record;
+use std::io;
 use words::bytes;
 use working::Worked;
 
@@ -70,15 +70,16 @@ fn answer(job: &[u8], t: u64, out: &mut [u8]) -> usize
     }
 }
 
-fn main() {
+fn main(rt: HostRuntime) -> io::Result<()> {
+    let mut input = rt.stdin();
     let mut head = [0u8; 8];
-    io::read_full(STDIN_FILENO, &mut head);
+    streams::read_full(&mut input, &mut head)?;
     let length = job_length(&head);
     let mut job = [0u8; JOB_MOST];
-    let job_read = io::read_full(STDIN_FILENO, &mut job[..length]);
+    let job_read = streams::read_full(&mut input, &mut job[..length])?;
     let mut seconds = [0u8; 8];
-    io::read_full(STDIN_FILENO, &mut seconds);
+    streams::read_full(&mut input, &mut seconds)?;
     let mut out = [0u8; ROOM];
     let written = answer(&job[..job_read], bytes::word_at(&seconds, 0), &mut out);
-    io::write_all(STDOUT_FILENO, &out[..written]);
+    rt.write_all(&out[..written])
 }

@@ -10,7 +10,7 @@ ghost use Rattle.piezometer.specs.FieldOutput.{readings_most, answers_most, word
 ghost use Rattle.rules.specs.Program.{input_most};
 
 use field_data::{ANSWER_WORDS, READING_WORDS};
-use libc::{STDIN_FILENO, STDOUT_FILENO};
+use std::io;
 
 // The most bytes of a job that are read.
 const JOB_MOST: usize = 8_192;
@@ -62,15 +62,16 @@ fn answer(job: &[u8], readings: &[u8], out: &mut [u8]) -> usize
     answer_words(job, &words[..asked], &mut answers[..told], out)
 }
 
-fn main() {
+fn main(rt: HostRuntime) -> io::Result<()> {
+    let mut input = rt.stdin();
     let mut head = [0u8; 8];
-    io::read_full(STDIN_FILENO, &mut head);
+    streams::read_full(&mut input, &mut head)?;
     let length = job_length(&head);
     let mut job = [0u8; JOB_MOST];
-    let job_read = io::read_full(STDIN_FILENO, &mut job[..length]);
+    let job_read = streams::read_full(&mut input, &mut job[..length])?;
     let mut readings = [0u8; READINGS_MOST];
-    let read = io::read_full(STDIN_FILENO, &mut readings);
+    let read = streams::read_full(&mut input, &mut readings)?;
     let mut out = [0u8; ROOM];
     let written = answer(&job[..job_read], &readings[..read], &mut out);
-    io::write_all(STDOUT_FILENO, &out[..written]);
+    rt.write_all(&out[..written])
 }
