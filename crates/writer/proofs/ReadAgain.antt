@@ -9,7 +9,7 @@ use mathlib.Core.Option.{none}
 use mathlib.Core.Path.{◌≡◌, refl, sym, ap, ◌∙◌}
 use Rattle.acceptance.proofs.AcceptingLaws.{accepted_none, header_within, unstarted_accepts, refused-accepted}
 use Rattle.acceptance.proofs.SoundDescription.{fields, heights_kept, levels_kept}
-use Rattle.claims.proofs.Starts.{started_parts}
+use Rattle.claims.proofs.StartedParts.{started_parts}
 use Rattle.description.proofs.Checking.{none_tests}
 use Rattle.job.specs.Framing.{framing}
 use Rattle.job.specs.declared.framing.Framed.TheVariants.{Sound}
