@@ -144,7 +144,7 @@ run_to_result-requires c = let k = c.before.before.before.before.before.before.b
 }
 
 pub returns-in-Accepted : goal.returns-in-Accepted
-returns-in-Accepted c = let k = c.before.before.before.before.before.before.before.before.before.before.before in
+returns-in-Accepted c = let k = c.before.before.before.before.before.before.before.before.before.before.before.before.before.before in
     let result = (s k).args.res.now in
     let run : Record → Header → Returned = λ x h. run_to_result x h.end h.budget result in
     let e : key (job k) result ≡ run (lent k) (header k) =

@@ -49,7 +49,7 @@ counts-as : (s : lts.Start tie.the-claims reads.Pre reads.Post tie.handed_clause
 counts-as s e h = rw e h
 
 pub run_lent-ended-requires : goal.run_lent-ended-requires
-run_lent-ended-requires c = let s = c.before.before.before.before in record {
+run_lent-ended-requires c = let s = c.before.before.before.before.before.before in record {
   r_value = counts-as s c.curve_counts-counts.ensures s.requires.r_value;
   clock_le_end = s.requires.clock_le_end;
   water_len = s.requires.water_len;
@@ -79,7 +79,7 @@ module _ (f : lts.After-run_lent tie.the-claims reads.Pre reads.Post tie.handed_
 
   -- there is room for its result
   room : result_size s.args.frame.elements ≤ length out
-  room = subst (λ (k : ℕ). k ≤ length out) n.result_size.ensures n.if-out-result_size.left
+  room = subst (λ (k : ℕ). k ≤ length out) n.result_size.ensures n.if-out-result_size.false
 
   abbrev left : Record → Ending
   left r = record { stop = ended.stop; steps = ended.steps; after = with_parts r water ended.progress }
@@ -102,7 +102,7 @@ write_lent-requires c = let f = c.before in record {
 }
 
 pub returns : goal.returns
-returns c = let f = c.before.before in
+returns c = let f = c.before.before.before.before.before in
     let (e, left-water) = room_enough (layer (s f)) (end f) (budget f) (out f) (room f) in
     let bytes = ap (λ (x : Ending). overlaid (result_bytes x.after x.stop x.steps) (out f)) (gives f) in record {
       value = number_is e;
