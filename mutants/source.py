@@ -28,8 +28,10 @@ KEYWORDS = frozenset(
     " while".split()
 )
 OPENING = {"(": ")", "[": "]", "{": "}"}
-# The libraries that read and write files.
-FILES = frozenset(("io", "os", "libc"))
+# The modules of std that read and write files.
+FILES = frozenset(("io", "fs"))
+# What stands before a module of tests.
+TESTS = ["#", "[", "cfg", "(", "test", ")", "]", "mod"]
 
 
 class SourceError(Exception):
@@ -136,6 +138,18 @@ def without_contracts(text: str) -> str:
     return "".join(kept)
 
 
+def without_tests(path: str, tokens: List[Token]) -> List[Token]:
+    """The tokens but those of modules of tests."""
+    partner, found, place = partners(path, tokens), [], 0
+    while place < len(tokens):
+        if [token.text for token in tokens[place : place + len(TESTS)]] == TESTS:
+            place = partner[place + len(TESTS) + 1] + 1
+        else:
+            found.append(tokens[place])
+            place += 1
+    return found
+
+
 def tokens_of(path: str, text: str) -> List[Token]:
     found, at = [], 0
     plain = without_contracts(text)
@@ -168,7 +182,7 @@ def partners(path: str, tokens: Sequence[Token]) -> Dict[int, int]:
 
 
 def read_source(path: str, text: str) -> Source:
-    tokens = tokens_of(path, text)
+    tokens = without_tests(path, tokens_of(path, text))
     source = Source(path, text, tokens, partners(path, tokens))
     source.bodies = list(bodies(source, 0, len(tokens), ""))
     return source
@@ -180,7 +194,7 @@ def has_promise(text: str) -> bool:
 
 
 def uses_files(tokens: Sequence[Token]) -> bool:
-    """Whether some of the tokens call a library that reads and writes files."""
+    """Whether some of the tokens name a module that reads and writes files."""
     return any(one.text in FILES and other.text == "::" for one, other in zip(tokens, tokens[1:]))
 
 
@@ -195,7 +209,7 @@ def bodies(source: Source, place: int, last: int, owner: str) -> Iterator[Body]:
                 raise SourceError(f"{source.path}: {tokens[place + 1].text} has no body")
             end = source.partner[start]
             promised = has_promise(source.text[tokens[place].start : tokens[start].start])
-            promised = promised and not uses_files(tokens[start:end])
+            promised = promised and not uses_files(tokens[place:end])
             yield Body(owner + tokens[place + 1].text, False, promised, place, start + 1, end)
             place = start
         elif word == "const":

@@ -103,8 +103,15 @@ class Bodies(unittest.TestCase):
         self.assertEqual([False, True], [body.promised for body in read_source("a.rt", text).bodies])
 
     def test_what_a_function_does_with_files_is_not_promised(self) -> None:
-        for text, promised in (("io::write_all(1, b); a", False), ("a[libc::STDOUT]", False), ("ratio::io(a)", True)):
+        for text, promised in (("io::stdin(); a", False), ("fs::File::open(a)", False), ("ratio::io(a)", True)):
             self.assertEqual(promised, source_of(text).bodies[-1].promised)
+        told = function("a").replace("-> u64", "-> io::Result<u64>")
+        self.assertEqual([False, True], [body.promised for body in read_source("a.rt", told + function("a")).bodies])
+
+    def test_what_tests_is_not_read(self) -> None:
+        tests = "#[cfg(test)]\nmod tests {\n    use super::*;\n\n    #[test]\n    fn g(rt: HostRuntime) { 1 + 1 }\n}\n"
+        for text in (tests + function("a"), function("a") + tests):
+            self.assertEqual(["f"], [body.name for body in read_source("a.rt", text).bodies])
 
     def test_what_is_no_source_is_refused(self) -> None:
         for text in ("fn f() { λ }", "fn f() { (] }", "fn f() {", "fn f() ensures { a {}"):
