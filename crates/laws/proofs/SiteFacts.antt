@@ -1,5 +1,4 @@
 -- What a sound site says of a record.
-use Prim.Native.Nat.{◌≤◌, ◌<◌}
 use lib.Dec.{lit<, lit≤}
 use lib.IntN.{ℤ, pos, ◌-ℤ◌}
 use mathlib.Core.Bool.{Bool, true, ◌&&◌}

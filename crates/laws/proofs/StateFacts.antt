@@ -1,6 +1,6 @@
 -- What a sound state says of a record.
 use Prim.Native.Nat.{ℕ, ◌*◌, ◌≤◌}
-use lib.Dec.{leb, leb→le}
+use lib.Dec.{leb→le}
 use lib.IntN.{ℤ, pos, nat_abs, ◌+ℤ◌}
 use mathlib.Core.Bool.{Bool, true, ◌&&◌}
 use mathlib.Core.List.{map}

@@ -1,5 +1,5 @@
 -- What lies between two integers.
-use Rattle.std.specs.Prelude.{◌≤◌, ℤ, ◌≤ℤ◌}
+use Rattle.std.specs.Prelude.{ℤ, ◌≤ℤ◌}
 
 -- z is at least lo and at most hi
 abbrev pub Between : (lo hi : ℤ) → ℤ → Type 0

@@ -4,7 +4,7 @@ use Rattle.std.proofs.Math.Option.{Option, none, some}
 use Rattle.numbers.specs.Arrays.{zeros, overlaid}
 use Rattle.numbers.specs.Sums.{sum}
 use Rattle.quantities.specs.Quantities.{head}
-use Rattle.rules.specs.Layer.{State, skeleton, burdens}
+use Rattle.rules.specs.Layer.{skeleton, burdens}
 use Rattle.rules.specs.Start.{rests_over, start_water, opening_load, opening_state}
 use Rattle.rules.specs.Steady.{steady}
 use Rattle.rules.specs.Outcome.{Numbers, answer_numbers}

@@ -1,5 +1,5 @@
 -- The record: what it holds of a job and of a state, and when it is a layer.
-use Rattle.std.specs.Prelude.{ℕ, ◌*◌, ℤ, pos, ◌+ℤ◌, Bool, true, ◌&&◌, List, [], ◌∷◌, map}
+use Rattle.std.specs.Prelude.{ℕ, ℤ, pos, ◌+ℤ◌, Bool, true, ◌&&◌, List, [], ◌∷◌, map}
 use Rattle.numbers.specs.Arrays.{first_places, overlaid}
 use Rattle.numbers.specs.Integers.{eq_ℤ}
 use Rattle.numbers.specs.Lists.{all}

@@ -1,5 +1,5 @@
 -- Start: where the water heights of an opened layer come from.
-use Rattle.std.specs.Prelude.{ℕ, suc, ◌+◌, leb, eqb, ℤ, pos, Bool, true, false, cond, List, [], ◌∷◌, map}
+use Rattle.std.specs.Prelude.{ℕ, suc, ◌+◌, leb, eqb, ℤ, pos, Bool, true, false, cond, List, map}
 use Rattle.std.proofs.Math.Option.{Option, none, some}
 use Rattle.numbers.specs.Integers.{eq_ℤ}
 use Rattle.numbers.specs.Lists.{least, last_or, paired, all_some}

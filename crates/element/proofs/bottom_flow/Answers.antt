@@ -1,4 +1,3 @@
-use borrow.Author.Rules.{rules}
 use lib.Dec.{lit≤}
 use lib.IntN.{ℤ, pos, neg_ℤ, ◌-ℤ◌}
 use mathlib.Core.Path.{◌≡◌}

@@ -1,7 +1,6 @@
 use Prim.Native.Nat.{◌-◌, ◌*◌, ◌≤◌}
 use native.Mathlib.Nat.{mul-le-mul}
 use native.Mathlib.Omega.{arith}
-use borrow.Author.Rules.{rules}
 use Rattle.rules.specs.Layer.{buoyant_weight}
 use Rattle.element.proofs.buoyant_weight.Goals as goal
 use Rattle.element.proofs.buoyant_weight.Lts as lts

@@ -2,7 +2,6 @@ use mathlib.Core.Path.{ap, ◌∙◌}
 use Rattle.curves.proofs.SmoothCurves.{compressibility_smooth}
 use Rattle.rules.specs.Curve.{points, curve_at}
 use Rattle.rules.specs.Layer.{effective_stress}
-use borrow.Author.Rules.{rules}
 use Rattle.element.proofs.effective_stress.Goals as goal
 
 pub read-requires : goal.read-requires

@@ -1,4 +1,3 @@
-use borrow.Author.Rules.{rules}
 use Rattle.rules.specs.Layer.{sensitivity}
 use Rattle.element.proofs.sensitivity.Goals as goal
 

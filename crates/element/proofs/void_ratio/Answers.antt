@@ -1,4 +1,3 @@
-use borrow.Author.Rules.{rules}
 use Rattle.rules.specs.Layer.{void_ratio}
 use Rattle.element.proofs.void_ratio.Goals as goal
 

@@ -1,4 +1,3 @@
-use borrow.Author.Rules.{rules}
 use Rattle.numbers.specs.Rounding.{ceil}
 use Rattle.numbers.proofs.Quotients.{ceiled}
 use Rattle.numbers.proofs.ceil.Goals as goal

@@ -1,4 +1,3 @@
-use borrow.Author.Rules.{rules}
 use Rattle.numbers.proofs.Quotients.{floored}
 use Rattle.numbers.proofs.floor.Goals as goal
 

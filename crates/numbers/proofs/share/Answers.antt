@@ -1,4 +1,3 @@
-use borrow.Author.Rules.{rules}
 use Prim.Native.Nat.{◌*◌}
 use Rattle.numbers.proofs.Quotients.{floored}
 use Rattle.numbers.proofs.share.Goals as goal

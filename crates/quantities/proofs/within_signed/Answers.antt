@@ -1,4 +1,3 @@
-use borrow.Author.Rules.{rules}
 use mathlib.Core.Path.{sym, ◌∙◌}
 use lib.IntN.{pos}
 use lib.Signed.{◌≤ℤ◌}

@@ -50,6 +50,6 @@ write_layer-requires c = record {
 
 pub returns : goal.returns
 returns c = let e = result_written c.args.r c.args.stop c.args.steps c.args.out.now (standing c.before.before.before.before.before.before.before) (room c.before.before.before.before.before) in record {
-      value = number_is e;
-      out_after = c.write_layer.ensures ∙ buffer_is e;
-    }
+  value = number_is e;
+  out_after = c.write_layer.ensures ∙ buffer_is e;
+}

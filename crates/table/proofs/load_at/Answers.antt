@@ -1,10 +1,8 @@
-use Prim.Native.Nat.{◌+◌, ◌-◌, ◌≤◌, ◌<◌}
+use Prim.Native.Nat.{◌+◌}
 use native.Mathlib.Omega.{arith}
-use lib.ListN.{get_or, drop}
-use mathlib.Core.Path.{◌≡◌, refl, sym, ap, ◌∙◌}
+use lib.ListN.{get_or}
+use mathlib.Core.Path.{refl, sym, ap, ◌∙◌}
 use Rattle.numbers.proofs.Signed.{signed, read_unsigned}
-use Rattle.rules.specs.Curve.{points}
-use Rattle.rules.specs.Load.{load_at}
 use Rattle.quantities.specs.Quantities.{pressure}
 use Rattle.table.proofs.Laws.{Tabled, tabled, load_here, load_later, load_last}
 use Rattle.table.proofs.load_at.Goals as goal

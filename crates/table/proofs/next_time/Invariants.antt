@@ -1,11 +1,9 @@
 use Prim.Native.Nat.{ℕ, ◌-◌, ◌≤◌}
-use native.Mathlib.Omega.{arith}
 use lib.ListN.{drop}
 use mathlib.Core.List.{List}
-use mathlib.Core.Path.{◌≡◌, refl, sym, ◌∙◌}
+use mathlib.Core.Path.{◌≡◌}
 use Rattle.rules.specs.Curve.{points}
 use Rattle.rules.specs.Load.{next_time}
-use Rattle.table.proofs.Laws.{next_here, next_later, next_none}
 use Rattle.table.proofs.next_time.Given as goal
 
 abbrev pub invariant-loop-i : goal.invariant-loop-i

@@ -1,5 +1,4 @@
 use native.Mathlib.Omega.{arith}
-use borrow.Author.Rules.{rules}
 use Rattle.numbers.proofs.Signed.{read_back, read_unsigned}
 use Rattle.water.proofs.between.Goals as goal
 

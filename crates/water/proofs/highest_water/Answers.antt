@@ -4,7 +4,6 @@ use Rattle.laws.specs.Bounds.{highest_water}
 use Rattle.numbers.proofs.Quotients.{floored_remains}
 use Rattle.quantities.specs.Quantities.{void_limits, solids_limits}
 use native.Mathlib.Omega.{arith}
-use borrow.Author.Rules.{rules}
 use Rattle.water.proofs.highest_water.Goals as goal
 use Rattle.water.proofs.highest_water.Lts as lts
 use Rattle.water.proofs.highest_water.Reads as reads

@@ -1,22 +1,11 @@
-use Prim.Native.Nat.{ℕ, ◌-◌, ◌≤◌, ◌<◌}
-use native.Mathlib.Numerals.{add-one}
-use native.Mathlib.Omega.{arith}
-use borrow.Author.Tests.{not-true, not-false}
-use lib.IntN.{ℤ, pos}
+use Prim.Native.Nat.{◌-◌, ◌≤◌}
+use lib.IntN.{pos}
 use lib.ListN.{get_or}
-use mathlib.Core.Bool.{Bool}
-use mathlib.Core.List.{List, ◌∷◌}
-use mathlib.Core.Path.{◌≡◌, refl, sym, ap, ◌∙◌}
-use mir.Syntax.{w64}
-use mir.Val.{SFits, of_z, to_z}
-use Rattle.water.specs.Water.{between, stays_at, Movable}
-use Rattle.water.proofs.WaterAt.{entering}
-use Rattle.laws.specs.Most.{most_flow}
+use mathlib.Core.List.{◌∷◌}
+use mathlib.Core.Path.{◌≡◌}
+use Rattle.water.specs.Water.{stays_at}
 use Rattle.numbers.specs.Arrays.{every_index}
-use Rattle.numbers.proofs.Indices.{rest_passes, all_rest, index_fails, index_goes, index_ends}
-use Rattle.numbers.specs.Interval.{Within}
-use Rattle.numbers.proofs.Interval.{within_fits}
-use Rattle.numbers.proofs.Signed.{read_back}
+use Rattle.numbers.proofs.Indices.{rest_passes}
 use Rattle.water.proofs.stays_between.Given as goal
 
 abbrev pub invariant-loop-j : goal.invariant-loop-j

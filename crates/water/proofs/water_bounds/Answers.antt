@@ -1,8 +1,4 @@
-use Prim.Native.Nat.{◌-◌, ◌≤◌}
-use lib.ListN.{get_or}
-use mathlib.Core.Path.{◌≡◌, sym}
-use Rattle.laws.specs.Bounds.{lowest_water, highest_water}
-use Rattle.numbers.specs.Arrays.{filled}
+use mathlib.Core.Path.{sym}
 use Rattle.numbers.proofs.Filled.{filled_zero, filled_store, filled_done}
 use native.Mathlib.Omega.{arith}
 use Rattle.water.proofs.water_bounds.Goals as goal

@@ -1,10 +1,8 @@
 use Prim.Native.Nat.{◌-◌, ◌≤◌}
 use lib.ListN.{get_or}
-use mathlib.Core.Path.{◌≡◌, sym}
+use mathlib.Core.Path.{◌≡◌}
 use Rattle.laws.specs.Bounds.{lowest_water, highest_water}
 use Rattle.numbers.specs.Arrays.{filled}
-use Rattle.numbers.proofs.Filled.{filled_zero, filled_store, filled_done}
-use native.Mathlib.Omega.{arith}
 use Rattle.water.proofs.water_bounds.Given as goal
 
 abbrev pub invariant-loop-j : goal.invariant-loop-j

@@ -7,7 +7,6 @@ use Rattle.rules.specs.Curve.{point, interpolated}
 use Rattle.laws.proofs.Interpolating.{segment_divides}
 use Rattle.quantities.specs.Quantities.{stress_limits, void_limits}
 use native.Mathlib.Omega.{arith}
-use borrow.Author.Rules.{rules}
 use Rattle.curves.proofs.reading.interpolated.Goals as goal
 use Rattle.curves.proofs.reading.interpolated.Lts as lts
 use Rattle.curves.proofs.reading.interpolated.Reads as reads

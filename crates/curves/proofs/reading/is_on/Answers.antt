@@ -1,5 +1,4 @@
 use Rattle.rules.specs.Curve.{is_on}
-use borrow.Author.Rules.{rules}
 use Rattle.curves.proofs.reading.is_on.Goals as goal
 
 pub returns-in-On : goal.returns-in-On

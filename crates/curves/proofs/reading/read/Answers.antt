@@ -1,7 +1,6 @@
 use native.Mathlib.Omega.{arith}
 use mathlib.Core.Path.{sym, ◌∙◌}
 use Rattle.curves.proofs.Segments.{interpolable, read_any, named}
-use borrow.Author.Rules.{rules}
 use Rattle.curves.proofs.reading.read.Goals as goal
 
 pub interpolated-requires : goal.interpolated-requires

@@ -1,11 +1,7 @@
-use Prim.Native.Nat.{◌+◌, ◌-◌, ◌<◌}
 use native.Mathlib.Nat.{zero-add}
-use lib.ListN.{drop}
-use mathlib.Core.Path.{◌≡◌, refl, sym, ◌∙◌}
-use Rattle.rules.specs.Curve.{points, curve_at, segment_at}
+use mathlib.Core.Path.{refl, sym, ◌∙◌}
 use Rattle.curves.proofs.Segments.{interpolable, read_here, read_on, read_end, found_here, found_on, named, not_on}
 use native.Mathlib.Omega.{arith}
-use borrow.Author.Rules.{rules}
 use Rattle.curves.proofs.reading.read_from_first.Goals as goal
 
 pub loop-i-init : goal.loop-i-init

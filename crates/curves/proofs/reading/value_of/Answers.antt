@@ -1,5 +1,4 @@
 use Rattle.rules.specs.Curve.{value_of}
-use borrow.Author.Rules.{rules}
 use Rattle.curves.proofs.reading.value_of.Goals as goal
 
 pub returns-in-On : goal.returns-in-On

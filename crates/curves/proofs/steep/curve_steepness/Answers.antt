@@ -1,10 +1,6 @@
-use Prim.Native.Nat.{◌+◌, ◌-◌, ◌<◌, max}
-use lib.ListN.{drop}
-use mathlib.Core.Path.{◌≡◌}
-use Rattle.rules.specs.Curve.{points, curve_steepness}
+use Prim.Native.Nat.{◌+◌}
 use Rattle.rules.proofs.Sound.{compressible, steepness_step, steepness_end}
 use native.Mathlib.Omega.{arith}
-use borrow.Author.Rules.{rules}
 use Rattle.curves.proofs.steep.curve_steepness.Goals as goal
 
 pub loop-i-init : goal.loop-i-init

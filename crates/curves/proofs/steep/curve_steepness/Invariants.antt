@@ -1,10 +1,7 @@
-use Prim.Native.Nat.{◌+◌, ◌-◌, ◌<◌, max}
+use Prim.Native.Nat.{◌-◌, ◌<◌, max}
 use lib.ListN.{drop}
 use mathlib.Core.Path.{◌≡◌}
 use Rattle.rules.specs.Curve.{points, curve_steepness}
-use Rattle.rules.proofs.Sound.{compressible, steepness_step, steepness_end}
-use native.Mathlib.Omega.{arith}
-use borrow.Author.Rules.{rules}
 use Rattle.curves.proofs.steep.curve_steepness.Given as goal
 
 abbrev pub invariant-loop-i : goal.invariant-loop-i

@@ -1,7 +1,6 @@
 use mathlib.Core.Path.{sym, ◌∙◌}
 use Rattle.points.specs.Checks.{follows}
 use Rattle.rules.specs.Curve.{falling, compressibility_sound}
-use borrow.Author.Rules.{rules}
 use Rattle.points.proofs.checks.compressibility_sound.Goals as goal
 
 pub returns-then-points_within : goal.returns-then-points_within

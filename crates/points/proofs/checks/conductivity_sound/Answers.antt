@@ -1,11 +1,9 @@
-use borrow.Author.Tests.{not-true, not-false}
 use mathlib.Core.Bool.{true}
 use mathlib.Core.Path.{◌≡◌, sym, ◌∙◌}
 use Rattle.points.specs.Checks.{point_within, follows}
 use Rattle.numbers.specs.Lists.{all}
 use Rattle.rules.specs.Curve.{points, rising, conductivity_sound}
 use Rattle.quantities.specs.Quantities.{void_limits, conductivity_limits}
-use borrow.Author.Rules.{rules}
 use Rattle.points.proofs.checks.conductivity_sound.Goals as goal
 use Rattle.points.proofs.checks.conductivity_sound.Lts as lts
 use Rattle.points.proofs.checks.conductivity_sound.Reads as reads

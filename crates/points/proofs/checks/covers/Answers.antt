@@ -1,13 +1,7 @@
-use Prim.Native.Nat.{ℕ, ◌-◌, ◌≤◌}
 use native.Mathlib.Omega.{arith}
-use borrow.Author.Rules.{rules}
-use borrow.Author.Tests.{not-true, not-false}
-use lib.ListN.{get_or, drop}
-use mathlib.Core.Bool.{Bool}
-use mathlib.Core.List.{List}
+use lib.ListN.{get_or}
 use mathlib.Core.Path.{◌≡◌, refl, sym, ◌∙◌}
-use Rattle.numbers.specs.Lists.{all}
-use Rattle.rules.specs.Curve.{Point, points, curve_at, is_on, covers}
+use Rattle.rules.specs.Curve.{points, curve_at, is_on, covers}
 use Rattle.rules.proofs.Points.{all_fails, all_goes, all_ends}
 use Rattle.points.proofs.Covers.{between_ends}
 use Rattle.points.proofs.checks.covers.Invariants.{on}

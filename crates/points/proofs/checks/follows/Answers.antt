@@ -1,6 +1,5 @@
 use borrow.Author.Tests.{lt-ltb, le-ltb}
 use Rattle.points.specs.Checks.{follows}
-use borrow.Author.Rules.{rules}
 use Rattle.points.proofs.checks.follows.Goals as goal
 
 pub returns-then-y0-y1 : goal.returns-then-y0-y1

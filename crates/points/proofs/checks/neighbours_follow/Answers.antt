@@ -1,13 +1,7 @@
-use borrow.Author.Tests.{not-true, not-false}
-use Prim.Native.Nat.{◌-◌, ◌<◌}
-use lib.ListN.{drop}
-use mathlib.Core.Path.{◌≡◌, refl, sym, ◌∙◌}
-use Rattle.numbers.specs.Lists.{neighbours}
-use Rattle.rules.specs.Curve.{points}
+use mathlib.Core.Path.{refl, sym, ◌∙◌}
 use Rattle.rules.proofs.Points.{neighbours_fail, neighbours_go, neighbours_stop}
 use Rattle.points.specs.Checks.{follows}
 use native.Mathlib.Omega.{arith}
-use borrow.Author.Rules.{rules}
 use Rattle.points.proofs.checks.neighbours_follow.Goals as goal
 
 pub loop-i-init : goal.loop-i-init

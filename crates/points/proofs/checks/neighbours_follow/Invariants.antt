@@ -1,13 +1,9 @@
-use borrow.Author.Tests.{not-true, not-false}
 use Prim.Native.Nat.{◌-◌, ◌<◌}
 use lib.ListN.{drop}
-use mathlib.Core.Path.{◌≡◌, refl, sym, ◌∙◌}
+use mathlib.Core.Path.{◌≡◌}
 use Rattle.numbers.specs.Lists.{neighbours}
 use Rattle.rules.specs.Curve.{points}
-use Rattle.rules.proofs.Points.{neighbours_fail, neighbours_go, neighbours_stop}
 use Rattle.points.specs.Checks.{follows}
-use native.Mathlib.Omega.{arith}
-use borrow.Author.Rules.{rules}
 use Rattle.points.proofs.checks.neighbours_follow.Given as goal
 
 abbrev pub invariant-loop-i : goal.invariant-loop-i

@@ -1,4 +1,3 @@
-use borrow.Author.Rules.{rules}
 use Rattle.points.proofs.checks.point_within.Goals as goal
 
 pub returns-then-within : goal.returns-then-within

@@ -1,14 +1,8 @@
-use borrow.Author.Tests.{not-true, not-false}
-use Prim.Native.Nat.{◌-◌, ◌≤◌}
-use lib.ListN.{drop}
-use mathlib.Core.Path.{◌≡◌, refl, sym, ◌∙◌}
-use Rattle.numbers.specs.Lists.{all}
-use Rattle.rules.specs.Curve.{points}
+use mathlib.Core.Path.{refl, sym, ◌∙◌}
 use Rattle.rules.proofs.Points.{all_fails, all_goes, all_ends}
 use Rattle.quantities.specs.Quantities.{limits_of}
 use Rattle.points.specs.Checks.{point_within}
 use native.Mathlib.Omega.{arith}
-use borrow.Author.Rules.{rules}
 use Rattle.points.proofs.checks.points_within.Goals as goal
 
 pub loop-i-init : goal.loop-i-init

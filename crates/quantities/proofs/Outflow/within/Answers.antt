@@ -1,4 +1,4 @@
-use Prim.Native.Nat.{ℕ, ◌*◌, ◌≤◌}
+use Prim.Native.Nat.{ℕ, ◌*◌}
 use native.Mathlib.Omega.{arith}
 use lib.Dec.{leb, leb→le, le→leb}
 use lib.IntN.{ℤ, pos, nat_abs, ◌-ℤ◌}
@@ -12,7 +12,6 @@ use Rattle.numbers.proofs.Searches.{both, joined, same_test}
 use Rattle.numbers.proofs.Signed.{read_back, read_unsigned, one_sided, sub_parts, nat_abs_parts}
 use Rattle.quantities.specs.Quantities.{outflow_rate, most_outflow}
 use Rattle.quantities.specs.Quantities.{outflow_within}
-use borrow.Author.Rules.{rules}
 use Rattle.quantities.proofs.Outflow.within.Goals as goal
 use Rattle.quantities.proofs.Outflow.within.Lts as lts
 use Rattle.quantities.proofs.Outflow.within.Reads as reads

@@ -1,4 +1,3 @@
-use borrow.Author.Rules.{rules}
 use mathlib.Core.Path.{sym, ◌∙◌}
 use Rattle.quantities.specs.Quantities.{void_limits}
 use Rattle.quantities.proofs.Limits.{tested_kept, tested_outside}
