@@ -1,8 +1,8 @@
 -- What is written for a step on a record, and for one on the layer that a job's run leaves.
-use Prim.Native.Nat.{ℕ, ◌*◌}
-use lib.ListN.{length, take}
+use Prim.Native.Nat.{ℕ, ◌*◌, ◌≤◌}
+use lib.ListN.{length, take, length-append}
 use lib.Seq.{take_at}
-use mathlib.Core.List.{List}
+use mathlib.Core.List.{List, ◌++◌}
 use mathlib.Core.Option.{Option, none, some}
 use mathlib.Core.Path.{◌≡◌, refl, sym, ap, ◌∙◌}
 use native.Mathlib.Omega.{arith}
@@ -24,6 +24,10 @@ use Rattle.words.specs.Words.{bytes_of}
 use Rattle.working.specs.Working.{Working, working_words, working}
 use Rattle.working.specs.declared.Worked.{Worked}
 use Rattle.working.specs.declared.Worked.TheVariants as worked
+
+-- what is no longer than a front is no longer than the array
+pub front : (n : ℕ) (lent rest : List ℕ) → n ≤ length lent → n ≤ length (lent ++ rest)
+front n lent rest h = simp length-append (omega arith)
 
 -- ---- a step on a record
 

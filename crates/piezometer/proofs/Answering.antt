@@ -4,7 +4,7 @@ use native.Mathlib.Nat.{add-sub_of_le}
 use native.Mathlib.Omega.{arith}
 use borrow.Author.Tests.{eq-eqb, ne_eqb}
 use lib.Dec.{eqb}
-use lib.ListN.{length, take, replicate, length-replicate, replicate-append-replicate}
+use lib.ListN.{length, take, replicate, length-append, length-take, length-replicate, replicate-append-replicate}
 use lib.Seq.{length-take-le, take_at}
 use mathlib.Core.Bool.{Bool, true, false}
 use mathlib.Core.List.{List, ◌++◌}
@@ -54,6 +54,10 @@ field_written job readings words blank out last size w b line = rw (w, b) at lin
 
 -- ---- the fronts of arrays
 
+-- what is no longer than a front is no longer than the array
+pub front : (n : ℕ) (lent rest : List ℕ) → n ≤ length lent → n ≤ length (lent ++ rest)
+front n lent rest h = simp length-append (omega arith)
+
 -- words that are read into the front of an array
 module _ (count : ℕ) (bytes array lent rest : List ℕ) (fits : count ≤ length array) (read : lent ≡ words_in (length (take count array)) bytes) where
   lent_is : lent ≡ words_in count bytes
@@ -62,8 +66,15 @@ module _ (count : ℕ) (bytes array lent rest : List ℕ) (fits : count ≤ leng
   lent_length : length lent ≡ count
   lent_length = ap length lent_is ∙ length-words_in count bytes
 
+  pub front_whole : count ≤ length (lent ++ rest)
+  front_whole = front count lent rest (omega (arith, lent_length))
+
   pub front_read : take count (lent ++ rest) ≡ words_in count bytes
   front_read = take_at lent rest count lent_length ∙ lent_is
+
+-- a front has at most its bytes
+pub front_bytes : (n : ℕ) (array : List ℕ) (room : ℕ) → 8 * n ≤ room → 8 * length (take n array) ≤ room
+front_bytes n array room h = simp length-take (omega arith)
 
 -- the front of an array of zeros
 pub front_zeros : (count size : ℕ) → count ≤ size → take count (replicate {A = ℕ} size 0) ≡ zeros count
