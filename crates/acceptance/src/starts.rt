@@ -62,7 +62,8 @@ pub fn start_water<'a>(
     ensures water_after { water.new ≡ water_started (start_water (skeleton_of (points skeleton.points void.now stress.now)) (first_places elements burden.now) (first_places elements solids.now) may_rest start (first_places elements water.old) load) water.old }
     ensures by_index_3 { (j : ℕ) → j < elements → get_or water.new j 0 ≤ water_limits.most }
 {
-    if start != Start::REST {
+    let rests = start == Start::REST;
+    if !rests {
         return start::all_on_curve(elements, solids, water, skeleton, void, stress);
     }
     if !may_rest {

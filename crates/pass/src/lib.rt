@@ -69,7 +69,7 @@ pub fn pass<'a>(
     let under = state::loaded(progress, load);
     layer::read_elements(
         elements,
-        load,
+        under.load,
         counts,
         void,
         stress,

@@ -35,13 +35,13 @@ pub fn write_head(out: &mut [u8], elements: usize, ended: Ended, settlement: i64
     let progress = ended.progress;
     let load = progress.load;
     let clock = progress.clock;
-    let top_outflow = progress.top_outflow;
-    let bottom_outflow = progress.bottom_outflow;
+    let top_outflow = progress.top_outflow.0;
+    let bottom_outflow = progress.bottom_outflow.0;
     write_start(out, elements, stop);
     encoding::put_word(out, 8, clock.0);
     encoding::put_word(out, 16, ended.steps);
     encoding::put_word(out, 24, load.0 as u64);
-    encoding::put_signed(out, 32, top_outflow.0);
-    encoding::put_signed(out, 40, bottom_outflow.0);
+    encoding::put_signed(out, 32, top_outflow);
+    encoding::put_signed(out, 40, bottom_outflow);
     encoding::put_signed(out, 48, settlement);
 }

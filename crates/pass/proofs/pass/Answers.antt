@@ -24,7 +24,6 @@ use Rattle.quantities.specs.Quantities.{step_limits, pressure}
 use Rattle.rules.specs.Record.{soil_of, layer_of, record_of, record_site, record_state, is_layer}
 use Rattle.rules.specs.Run.{longest_reach, longest_step}
 use Rattle.rules.specs.Step.{too_long}
-use Rattle.quantities.specs.declared.Pressure.{Pressure}
 use Rattle.rules.specs.declared.record.Progress.{Progress}
 use Rattle.rules.specs.declared.record.Record.{Record}
 use Rattle.pass.specs.Passing as passing
@@ -78,10 +77,7 @@ module _ (c : lts.After-loaded tie.the-claims reads.Pre reads.Post tie.handed_cl
   abbrev s : lts.Start tie.the-claims reads.Pre reads.Post tie.handed_clauses
   s = c.before.before
 
-  abbrev load : Pressure
-  load = c.load_at-load.result
-
-  load_is : load ≡ pressure (load_at (site s).load_table (clock s))
+  load_is : c.load_at-load.result ≡ pressure (load_at (site s).load_table (clock s))
   unfolding record_site
   load_is = c.load_at-load.ensures.value
 
@@ -103,13 +99,13 @@ module _ (c : lts.After-loaded tie.the-claims reads.Pre reads.Post tie.handed_cl
   abbrev held : (load : ℤ) (burden : List ℕ) → Held
   held p b = held_of under.soil under.layer.frame.elements p b under.layer.solids under.layer.water
 
-  held-is : held load.0 s.args.burden.now ≡ held_in under
+  held-is : held c.loaded-under.result.load.0 s.args.burden.now ≡ held_in under
   held-is =
-      ap (λ (p : Pressure). held p.0 s.args.burden.now) load_is ∙
+      ap (λ (p : Progress). held p.load.0 s.args.burden.now) under-is ∙
       ap (held under.layer.progress.load.0) worked.burden_is
 
 pub read_elements-requires : goal.read_elements-requires
-read_elements-requires c = let g = c.before.before.before.before in
+read_elements-requires c = let g = c.before.before.before.before.before in
     let long = (s g).requires.water_len in record {
       elements_le_most = (counted (r (s g)) (is (s g))).1;
       stands = subst Stands (sym (held-is g)) (stands_held (under g) (is-under g));
@@ -118,7 +114,7 @@ read_elements-requires c = let g = c.before.before.before.before in
 
 module _ (c : lts.After-read_elements tie.the-claims reads.Pre reads.Post tie.handed_clauses) where
   abbrev g : lts.After-loaded tie.the-claims reads.Pre reads.Post tie.handed_clauses
-  g = c.before.before.before.before.before
+  g = c.before.before.before.before.before.before
 
   abbrev s₁ : lts.Start tie.the-claims reads.Pre reads.Post tie.handed_clauses
   s₁ = s g

@@ -29,10 +29,10 @@ abbrev from-load : lts.After-put_word3 tie.the-claims reads.Pre reads.Post tie.h
 from-load c = from-steps c.before.before.before.before.before.before
 
 abbrev from-top : lts.After-put_signed tie.the-claims reads.Pre reads.Post tie.handed_clauses → lts.After-write_start tie.the-claims reads.Pre reads.Post tie.handed_clauses
-from-top c = from-load c.before.before.before.before.before
+from-top c = from-load c.before.before.before.before
 
 abbrev from_bottom : lts.After-put_signed2 tie.the-claims reads.Pre reads.Post tie.handed_clauses → lts.After-write_start tie.the-claims reads.Pre reads.Post tie.handed_clauses
-from_bottom c = from-top c.before.before.before.before.before
+from_bottom c = from-top c.before.before.before.before
 
 abbrev from-settlement : lts.After-put_signed3 tie.the-claims reads.Pre reads.Post tie.handed_clauses → lts.After-write_start tie.the-claims reads.Pre reads.Post tie.handed_clauses
 from-settlement c = from_bottom c.before.before.before.before
@@ -41,8 +41,8 @@ abbrev start : lts.After-write_start tie.the-claims reads.Pre reads.Post tie.han
 start c = c.before.before.before.before.before.before.before.before
 
 -- the load fits, and is not negative
-load_fits : (c : lts.After-struct_told tie.the-claims reads.Pre reads.Post tie.handed_clauses) → SFits w64 (start (from-steps c.before.before.before.before.before)).args.ended.progress.load.0
-load_fits c = record { sfits = c.struct_told-1.given.0.1 }
+load_fits : (c : lts.After-struct_told3 tie.the-claims reads.Pre reads.Post tie.handed_clauses) → SFits w64 (start (from-steps c.before.before.before.before.before)).args.ended.progress.load.0
+load_fits c = record { sfits = c.struct_told-3-1.given.0.1 }
 
 pub overflow_cast-load : goal.overflow_cast-load
 overflow_cast-load c =
@@ -111,16 +111,16 @@ after-top : (c : lts.After-put_signed tie.the-claims reads.Pre reads.Post tie.ha
 unfolding bytes
 after-top c =
     let s = start (from-top c) in
-    let fits : SFits w64 (progress s).top_outflow.0 = record { sfits = c.struct_told-2-1.given.0.1 } in
-    sets_then s.args.out.now 0 (loaded s) (signed_word (progress s).top_outflow.0) (after-load c.before.before.before.before.before) refl
+    let fits : SFits w64 (progress s).top_outflow.0 = record { sfits = search (from-top c).before.before.before.struct_told-1.given } in
+    sets_then s.args.out.now 0 (loaded s) (signed_word (progress s).top_outflow.0) (after-load c.before.before.before.before) refl
     (simp (read_back fits) at c.put_signed.ensures)
 
 after-bottom : (c : lts.After-put_signed2 tie.the-claims reads.Pre reads.Post tie.handed_clauses) → c.put_signed-2.new.out ≡ written (start (from_bottom c)) (bottomed (start (from_bottom c)))
 unfolding bytes
 after-bottom c =
     let s = start (from_bottom c) in
-    let fits : SFits w64 (progress s).bottom_outflow.0 = record { sfits = c.struct_told-3-1.given.0.1 } in
-    sets_then s.args.out.now 0 (topped s) (signed_word (progress s).bottom_outflow.0) (after-top c.before.before.before.before.before) refl
+    let fits : SFits w64 (progress s).bottom_outflow.0 = record { sfits = search (from_bottom c).before.before.struct_told-2-1.given } in
+    sets_then s.args.out.now 0 (topped s) (signed_word (progress s).bottom_outflow.0) (after-top c.before.before.before.before) refl
     (simp (read_back fits) at c.put_signed-2.ensures)
 
 after-settlement : (c : lts.After-put_signed3 tie.the-claims reads.Pre reads.Post tie.handed_clauses) → c.put_signed-3.new.out ≡ written (start (from-settlement c)) (whole (start (from-settlement c)))

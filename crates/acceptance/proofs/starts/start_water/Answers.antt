@@ -48,11 +48,11 @@ all_on_curve-requires c = let p = c.requires in record {
   stress_value = p.least_le_points.2;
 }
 
-pub returns-then-start-ne-REST : goal.returns-then-start-ne-REST
-returns-then-start-ne-REST c = let t = c.before.before in
+pub returns-then-not-rests : goal.returns-then-not-rests
+returns-then-not-rests c = let t = c.before.before in
     let s = t in
     let start : found s ≡ all_or_none c.all_on_curve.result (first_places s.args.elements s.args.water.now) =
-    given_found (soil s) (Bs s) (Ss s) s.args.may_rest _ _ _ c.if-start-ne-REST.true c.all_on_curve.ensures in record {
+    given_found (soil s) (Bs s) (Ss s) s.args.may_rest _ _ _ (λ e. omega (arith, e, c.if-not-rests.true)) c.all_on_curve.ensures in record {
       load_value = start;
       water_after = given_left _ _ (few s) c.all_on_curve.result ∙ ap (water_left s) (sym start);
       by_index_3 = λ j h. (s.requires.by_index_2 j h).2;
@@ -63,7 +63,7 @@ pub returns-then-not-may_rest : goal.returns-then-not-may_rest
 unfolding all_or_none water_started
 returns-then-not-may_rest c = let s = c.before.before in
     let none_found : found s ≡ none =
-    unrested_found (soil s) (Bs s) (Ss s) s.args.may_rest _ _ _ c.if-start-ne-REST.false c.if-not-may_rest.true in record {
+    unrested_found (soil s) (Bs s) (Ss s) s.args.may_rest _ _ _ c.if-not-rests.false c.if-not-may_rest.true in record {
       load_value = none_found;
       water_after = ap (water_left s) (sym none_found);
       by_index_3 = λ j h. (s.requires.by_index_2 j h).2;
@@ -89,7 +89,7 @@ module _ (c : lts.After-resting_waters tie.the-claims reads.Pre reads.Post tie.h
   after = c.resting_waters.new.water
 
   at_rest : s₁.args.start ≡ 1
-  at_rest = c.if-start-ne-REST.false
+  at_rest = c.if-not-rests.false
 
   resting-is : found s₁ ≡ resting_from (soil s₁) s₁.args.load (Bs s₁) (Ss s₁)
   resting-is = resting-found (soil s₁) (Bs s₁) (Ss s₁) s₁.args.may_rest _ _ _ at_rest c.if-not-may_rest.false
