@@ -199,7 +199,7 @@ def uses_files(tokens: Sequence[Token]) -> bool:
 
 
 def bodies(source: Source, place: int, last: int, owner: str) -> Iterator[Body]:
-    """The bodies and constants of the items from a place on, with the type that an `impl` is for before their names."""
+    """The bodies and constants of the items from a place on, with the type that an `impl` is for, or the trait, before their names."""
     tokens = source.tokens
     while place < last:
         word = tokens[place].text
@@ -213,14 +213,16 @@ def bodies(source: Source, place: int, last: int, owner: str) -> Iterator[Body]:
             yield Body(owner + tokens[place + 1].text, False, promised, place, start + 1, end)
             place = start
         elif word == "const":
-            value = source.find(place, last, "=")
             end = source.find(place, last, ";")
-            assert value is not None and end is not None
-            yield Body(owner + tokens[place + 1].text, True, False, place, value + 1, end)
+            assert end is not None
+            value = source.find(place, end, "=")
+            if value is not None:
+                yield Body(owner + tokens[place + 1].text, True, False, place, value + 1, end)
             place = end
-        elif word == "impl":
+        elif word in ("impl", "trait"):
             start = source.find(place, last, "{")
             assert start is not None
-            yield from bodies(source, start + 1, source.partner[start], tokens[start - 1].text + "::")
+            named = start - 1 if word == "impl" else place + 1
+            yield from bodies(source, start + 1, source.partner[start], tokens[named].text + "::")
             place = start
         place = source.partner.get(place, place) + 1

@@ -118,6 +118,10 @@ class Bodies(unittest.TestCase):
             with self.assertRaises(SourceError):
                 read_source("a.rt", text)
 
+    def test_a_function_of_a_trait_is_read(self) -> None:
+        text = "pub trait Kind {\n    ghost LIMIT: { ℕ };\n\n    const LIMIT: u64;\n\n" + function("    a") + "}\n"
+        self.assertEqual(["Kind::f"], [body.name for body in read_source("a.rt", text).bodies])
+
     def test_every_function_of_the_crates_has_a_body_that_is_read(self) -> None:
         for crate in catalogue.crate_names(ROOT):
             for source in catalogue.sources_of(ROOT, crate):

@@ -1,9 +1,8 @@
 -- What accepting a description answers and leaves, by its first cause and its start.
 use Prim.Native.Nat.{ℕ}
-use native.Mathlib.Omega.{arith}
 use mathlib.Core.Bool.{true, false}
 use mathlib.Core.List.{List}
-use mathlib.Core.Option.{Option, none, some}
+use Rattle.std.specs.Prelude.{Option, None, Some}
 use mathlib.Core.Path.{◌≡◌, refl}
 use Rattle.acceptance.specs.Accepting.{water_started, accepted_burden}
 use Rattle.weights.specs.Weights.{burden_at}
@@ -14,19 +13,14 @@ use Rattle.rules.specs.Opening.{accepted, accepted_water, layer_causes, started_
 use Rattle.rules.specs.Record.{progress_of}
 use Rattle.rules.specs.Refusals.{first_cause}
 use Rattle.rules.specs.Start.{opening_state}
-use Rattle.rules.specs.declared.answers.Acceptance.{Acceptance}
-use Rattle.rules.specs.declared.answers.Acceptance.TheVariants.{Accepted, Refused}
+use Rattle.rules.specs.declared.answers.Accepted.{Accepted}
+use Rattle.std.specs.Prelude.{Result, Ok, Err}
 use Rattle.rules.specs.declared.answers.Refusal.{Refusal}
 use Rattle.rules.specs.declared.answers.Refusal.TheVariants.{HeaderOutside}
-use Rattle.rules.specs.declared.record.Frame.{Frame}
-use Rattle.rules.specs.declared.record.Progress.{Progress}
-
-pub refused-accepted : (cause : Refusal) (frame : Frame) (progress : Progress) → Refused cause ≡ Accepted frame progress → ⊥
-refused-accepted cause frame progress e = let z : ◌≡◌ {A = ℕ} 0 1 = cc in omega arith
 
 module _ (d : Description) where
   -- cause 3, and the causes after it
-  pub header_outside : header_sound d.header ≡ false → first_cause (layer_causes d) ≡ some HeaderOutside
+  pub header_outside : header_sound d.header ≡ false → first_cause (layer_causes d) ≡ Some HeaderOutside
   unfolding layer_causes first_cause
   header_outside e = rw (e, first_cause)
 
@@ -35,7 +29,7 @@ module _ (d : Description) where
   header_within e = rw (e, first_cause)
 
   -- what is answered, the water that is left, and the burdens
-  pub record Accepts (answer : Acceptance) (water : List ℕ) (burden : List ℕ → List ℕ) : Type 0 where
+  pub record Accepts (answer : Result Accepted Refusal) (water : List ℕ) (burden : List ℕ → List ℕ) : Type 0 where
     pub answers : answer ≡ accepted d
     pub water_left : water ≡ accepted_water d
     pub burden_left : (before : List ℕ) → burden before ≡ accepted_burden d before
@@ -45,7 +39,7 @@ module _ (d : Description) where
   burdens_in before = filled before d.header.elements (burden_at d.header.gravity d.header.elements d.solids)
 
   -- one of the causes 3 and 5 to 8
-  pub cause_accepts : (cause : Refusal) → first_cause (layer_causes d) ≡ some cause → Accepts (Refused cause) d.water (λ before. before)
+  pub cause_accepts : (cause : Refusal) → first_cause (layer_causes d) ≡ Some cause → Accepts (Err cause) d.water (λ before. before)
   unfolding accepted accepted_water accepted_burden
   cause_accepts cause e = record {
     answers = rw (e, accepted);
@@ -54,8 +48,8 @@ module _ (d : Description) where
   }
 
   -- none of them: 9 or 20, or a layer
-  module _ (e : first_cause (layer_causes d) ≡ none) where
-    pub unstarted_accepts : (cause : Refusal) → started d ≡ not_started cause → Accepts (Refused cause) d.water burdens_in
+  module _ (e : first_cause (layer_causes d) ≡ None) where
+    pub unstarted_accepts : (cause : Refusal) → started d ≡ not_started cause → Accepts (Err cause) d.water burdens_in
     unfolding accepted accepted_water accepted_burden started_water
     unstarted_accepts cause is = record {
       answers = rw (e, is, accepted);
@@ -64,7 +58,7 @@ module _ (d : Description) where
     }
 
     pub start_accepts : (water : List ℕ) → started d ≡ started_with water →
-        Accepts (Accepted (frame_of d.header (sum water)) (progress_of (opening_state (job_site d) water))) (water_started (some water) d.water) burdens_in
+        Accepts (Ok (record { frame = frame_of d.header (sum water); progress = progress_of (opening_state (job_site d) water) })) (water_started (Some water) d.water) burdens_in
     unfolding accepted accepted_water accepted_burden started_water water_started
     start_accepts water is = record {
       answers = rw (e, is, accepted);
@@ -73,16 +67,16 @@ module _ (d : Description) where
     }
 
   -- an accepted description has none of the causes
-  pub accepted_none : (frame : Frame) (progress : Progress) → accepted d ≡ Accepted frame progress → first_cause (layer_causes d) ≡ none
+  pub accepted_none : {layer : Accepted} → accepted d ≡ Ok layer → first_cause (layer_causes d) ≡ None
   unfolding accepted
-  accepted_none frame progress e = go (first_cause (layer_causes d)) e
+  accepted_none {layer} e = go (first_cause (layer_causes d)) e
     where
-      go : (first : Option Refusal) → elim first as (λ _. Acceptance) [
-        | some cause ↦ Refused cause
-        | none ↦ elim (started d) [
-          | not_started cause ↦ Refused cause
-          | started_with water ↦ Accepted (frame_of d.header (sum water)) (progress_of (opening_state (job_site d) water))
+      go : (first : Option Refusal) → elim first as (λ _. Result Accepted Refusal) [
+        | Some cause ↦ Err cause
+        | None ↦ elim (started d) [
+          | not_started cause ↦ Err cause
+          | started_with water ↦ Ok (record { frame = frame_of d.header (sum water); progress = progress_of (opening_state (job_site d) water) })
         ]
-      ] ≡ Accepted frame progress → first ≡ none
-      go none e = refl
-      go (some cause) e = absurd (refused-accepted cause frame progress e)
+      ] ≡ Ok layer → first ≡ None
+      go None e = refl
+      go (Some cause) e = cc

@@ -7,7 +7,7 @@ use lib.IntN.{pos}
 use lib.ListN.{get_or, length}
 use mathlib.Core.Bool.{Bool, true, false, false≢true, not, ◌||◌}
 use mathlib.Core.List.{List}
-use mathlib.Core.Option.{Option, none, some}
+use Rattle.std.specs.Prelude.{Option, None, Some}
 use mathlib.Core.Path.{◌≡◌, refl, sym, ap, subst, ◌∙◌}
 use Rattle.description.proofs.Checking.{none_tests}
 use Rattle.acceptance.specs.Accepting.{water_started}
@@ -44,7 +44,7 @@ use Rattle.rules.specs.Refusals.{first_cause}
 use Rattle.rules.specs.Record.{is_layer, layer_of, progress_of, record_of, record_site, record_state, soil_of}
 use Rattle.rules.specs.Start.{opening_load, opening_state, rests_over, start_water}
 use Rattle.rules.specs.Steady.{steady}
-use Rattle.rules.specs.declared.answers.Acceptance.TheVariants.{Accepted, Refused}
+use Rattle.std.specs.Prelude.{Ok, Err}
 use Rattle.rules.specs.declared.answers.Refusal.TheVariants.{StartNotSteady, StartOffCurve}
 use Rattle.rules.specs.declared.record.Frame.{Frame}
 use Rattle.rules.specs.declared.record.Progress.{Progress}
@@ -61,7 +61,7 @@ steady_given start steadied e = go (eqb start 2) refl e
     go true p e = let two = eqb→eq start 2 (passed p) in ne_eqb start 1 (λ one. omega (arith, one, two))
     go false p e = absurd (false≢true (sym e))
 
-module _ (d : Description) (header : header_sound d.header ≡ true) (sound : first_cause (described_causes d) ≡ none) where
+module _ (d : Description) (header : header_sound d.header ≡ true) (sound : first_cause (described_causes d) ≡ None) where
   abbrev n : ℕ
   n = d.header.elements
 
@@ -144,7 +144,7 @@ module _ (d : Description) (header : header_sound d.header ≡ true) (sound : fi
         all_or_none found (first_places n after))
         (leaves : after ≡
         water_started (start_water (skeleton_of curve) (first_places n burden) (first_places n d.solids) may_rest d.header.start (first_places n d.water) load) d.water) where
-      none_first : first_cause (layer_causes d) ≡ none
+      none_first : first_cause (layer_causes d) ≡ None
       none_first = header_within d header ∙ sound
 
       water_is : start_water (skeleton_of curve) (first_places n burden) (first_places n d.solids) may_rest d.header.start (first_places n d.water) load ≡
@@ -171,10 +171,10 @@ module _ (d : Description) (header : header_sound d.header ≡ true) (sound : fi
           sym (given_left n d.water few _)
 
       -- cause 9
-      pub off_curve : found ≡ false → Accepts d (Refused StartOffCurve) after (burdens_in d)
+      pub off_curve : found ≡ false → Accepts d (Err StartOffCurve) after (burdens_in d)
       unfolding all_or_none water_started
       off_curve e =
-          let off : description_water d ≡ none = water_found ∙ ap (λ (b : Bool). all_or_none b (first_places n after)) e in
+          let off : description_water d ≡ None = water_found ∙ ap (λ (b : Bool). all_or_none b (first_places n after)) e in
           rw (water_left, off) (unstarted_accepts d none_first StartOffCurve (off_started d off))
 
       -- ---- a start that cause 9 does not refuse
@@ -183,7 +183,7 @@ module _ (d : Description) (header : header_sound d.header ≡ true) (sound : fi
         abbrev water : List ℕ
         water = first_places n after
 
-        on : description_water d ≡ some water
+        on : description_water d ≡ Some water
         unfolding all_or_none
         on = water_found ∙ ap (λ (b : Bool). all_or_none b water) is_found
 
@@ -228,17 +228,17 @@ module _ (d : Description) (header : header_sound d.header ≡ true) (sound : fi
             steady_is = sym (tested ∙ rw (lent_is, stands.site_is, stands.state_is) refl)
 
             -- cause 20: then the water was given, and is left so
-            pub unsteady : n ≤ length d.water → steadied ≡ false → Accepts d (Refused StartNotSteady) after (burdens_in d)
+            pub unsteady : n ≤ length d.water → steadied ≡ false → Accepts d (Err StartNotSteady) after (burdens_in d)
             unsteady few e =
                 rw (given_kept few (steady_given d.header.start (steady (record_site lent) (record_state lent)) (sym tested ∙ e)))
                 (unstarted_accepts d none_first StartNotSteady (unsteady_started d water on (steady_is ∙ e)))
 
             -- a layer
-            pub accepts : steadied ≡ true → Accepts d (Accepted frame progress) after (burdens_in d)
+            pub accepts : steadied ≡ true → Accepts d (Ok (record { frame = frame; progress = progress })) after (burdens_in d)
             accepts e =
                 let a = start_accepts d none_first water (steady-started d water on (steady_is ∙ e)) in
                 record {
-                  answers = (λ i. Accepted (frame_is i) (progress_opened i)) ∙ a.answers;
+                  answers = (λ i. Ok (record { frame = frame_is i; progress = progress_opened i })) ∙ a.answers;
                   water_left = water_left ∙ ap (λ (o : Option (List ℕ)). water_started o d.water) on ∙ a.water_left;
                   burden_left = a.burden_left;
                 }

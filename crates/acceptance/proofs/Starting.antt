@@ -1,14 +1,15 @@
 -- The water of a start, as arrays hold it.
-use Prim.Native.Nat.{ℕ, ◌≤◌, ◌<◌}
+use Prim.Native.Nat.{ℕ, zero, suc, ◌≤◌, ◌<◌}
 use native.Mathlib.Omega.{arith}
 use borrow.Author.Tests.{eq-eqb, ne_eqb}
 use lib.Dec.{eqb, ltb, eqb→eq}
 use borrow.Author.Tests.{ltb-true, ltb-false}
 use lib.IntN.{pos}
-use lib.ListN.{get_or, length}
+use lib.ListN.{get_or, length, take, drop, replicate}
+use lib.Seq.{length-take-le}
 use mathlib.Core.Bool.{Bool, true, false, not, ◌||◌}
-use mathlib.Core.List.{List, map}
-use mathlib.Core.Option.{none, some}
+use mathlib.Core.List.{List, ◌∷◌, ◌++◌, map}
+use Rattle.std.specs.Prelude.{None, Some}
 use mathlib.Core.Path.{◌≡◌, refl, sym, ap, ◌∙◌}
 use Rattle.acceptance.specs.Accepting.{water_started}
 use Rattle.laws.proofs.Every.{every_at}
@@ -26,6 +27,17 @@ use Rattle.start.proofs.Heights.{heights_few, heights_most}
 use Rattle.start.proofs.Opened.{given_start, resting_start, unrested_start, resting_array}
 use Rattle.start.specs.Rest.{all_or_none, resting_heights}
 
+-- an array whose first places are set to 0
+zeros_by_index : (n : ℕ) → replicate {A = ℕ} n 0 ≡ tabulate n (λ _. 0)
+unfolding tabulate
+zeros_by_index zero = refl
+zeros_by_index (suc n) = ap (λ (rest : List ℕ). 0 ∷ rest) (zeros_by_index n)
+
+pub cleared : (array front : List ℕ) (n : ℕ) → n ≤ length array → front ≡ replicate {A = ℕ} (length (take n array)) 0 → front ++ drop n array ≡ filled array n (λ _. 0)
+unfolding filled overlaid
+cleared array front n h e =
+    rw (e, length-take-le n array h, zeros_by_index n, length-tabulate {A = ℕ} n (λ _. 0)) refl
+
 -- ---- the water that is found
 
 module _ (soil : Skeleton) (Bs Ss : List ℕ) (may_rest : Bool) (start : ℕ) (given : List ℕ) (load : ℕ) where
@@ -38,7 +50,7 @@ module _ (soil : Skeleton) (Bs Ss : List ℕ) (may_rest : Bool) (start : ℕ) (g
   pub resting-found : start ≡ 1 → may_rest ≡ true → start_water soil Bs Ss may_rest start given load ≡ resting_from soil load Bs Ss
   resting-found e over = resting_start soil Bs Ss may_rest start given load (eq-eqb start 1 e) over
 
-  pub unrested_found : start ≡ 1 → may_rest ≡ false → start_water soil Bs Ss may_rest start given load ≡ none
+  pub unrested_found : start ≡ 1 → may_rest ≡ false → start_water soil Bs Ss may_rest start given load ≡ None
   unrested_found e over = unrested_start soil Bs Ss may_rest start given load (eq-eqb start 1 e) over
 
 -- ---- the array that is left
@@ -77,7 +89,7 @@ module _ (n : ℕ) (before : List ℕ) (few : n ≤ length before) where
         go false e = rw (get_or-overlaid_past heights before j 0 (ltb-false _ _ e)) (most j h)
 
     -- all rest
-    pub resting_left : resting_from soil load (first_places n burden) (first_places n solids) ≡ some (first_places n after) →
+    pub resting_left : resting_from soil load (first_places n burden) (first_places n solids) ≡ Some (first_places n after) →
         after ≡ overlaid (first_places n after) before
     resting_left found = resting_array soil load (first_places n burden) (first_places n solids) (first_places n after) before after found is
 

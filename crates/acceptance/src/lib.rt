@@ -3,7 +3,7 @@
 #![tactic(auto)]
 
 ghost use Rattle.std.specs.Prelude.{pos, length, true, ◌≡◌};
-ghost use Rattle.std.proofs.Math.Option.{none};
+ghost use Rattle.std.specs.Prelude.{None};
 ghost use Rattle.acceptance.specs.Accepting.{accepted_burden};
 ghost use Rattle.description.specs.Lent.{description_of};
 ghost use Rattle.quantities.specs.Quantities.{head};
@@ -12,10 +12,9 @@ ghost use Rattle.rules.specs.Opening.{accepted, acceptance_number, accepted_numb
 ghost use Rattle.rules.specs.Refusals.{first_cause};
 
 use description::causes;
-use description::causes::Checked;
-use quantities::Head;
+use description::fields::Levels;
 use record_parts::{balance, form};
-use rules::answers::{Acceptance, Refusal};
+use rules::answers::{Accepted, Refusal};
 use rules::job::Header;
 use rules::record::Skeleton;
 
@@ -35,7 +34,7 @@ pub fn accept<'a>(
     table_time: &'a [u64; 64],
     table_load: &'a [u64; 64],
     burden: &mut [u64; 128],
-) -> Acceptance
+) -> Result<Accepted, Refusal>
     requires water_len { (length water.old ≡ 128) × (length burden.old ≡ 128) }
     ensures value { let d : Description = description_of header void.now stress.now conductivity_void.now conductivity.now solids.now water.old table_time.now table_load.now in result ≡ accepted d }
     ensures water_after { let d : Description = description_of header void.now stress.now conductivity_void.now conductivity.now solids.now water.old table_time.now table_load.now in water.new ≡ accepted_water d }
@@ -43,9 +42,9 @@ pub fn accept<'a>(
     ensures result_value { let d : Description = description_of header void.now stress.now conductivity_void.now conductivity.now solids.now water.old table_time.now table_load.now in acceptance_number result ≡ accepted_number d }
 {
     if !form::header_sound(header) {
-        return Acceptance::Refused(Refusal::HeaderOutside);
+        return Err(Refusal::HeaderOutside);
     }
-    let checked = causes::described_cause(
+    let levels = causes::described_cause(
         header,
         void,
         stress,
@@ -55,31 +54,26 @@ pub fn accept<'a>(
         water,
         table_time,
         table_load,
-    );
-    match checked {
-        Checked::Refused(cause) => Acceptance::Refused(cause),
-        Checked::Sound(top_level, bottom_level) => accept_start(
-            header,
-            top_level,
-            bottom_level,
-            void,
-            stress,
-            conductivity_void,
-            conductivity,
-            solids,
-            water,
-            table_time,
-            table_load,
-            burden,
-        ),
-    }
+    )?;
+    accept_start(
+        header,
+        levels,
+        void,
+        stress,
+        conductivity_void,
+        conductivity,
+        solids,
+        water,
+        table_time,
+        table_load,
+        burden,
+    )
 }
 
 // From a description without the causes 3 and 5 to 8, with its levels: the causes of its start, 9 and then 20.
 pub fn accept_start<'a>(
     header: Header,
-    top_level: Head,
-    bottom_level: Head,
+    levels: Levels,
     void: &'a [u64; 64],
     stress: &'a [u64; 64],
     conductivity_void: &'a [u64; 64],
@@ -89,9 +83,9 @@ pub fn accept_start<'a>(
     table_time: &'a [u64; 64],
     table_load: &'a [u64; 64],
     burden: &mut [u64; 128],
-) -> Acceptance
-    requires header_value { let d : Description = description_of header void.now stress.now conductivity_void.now conductivity.now solids.now water.old table_time.now table_load.now in (header_sound header ≡ true) × (first_cause (described_causes d) ≡ none) }
-    requires top_level_value { (top_level ≡ head (pos header.top_level)) × (bottom_level ≡ head (pos header.bottom_level)) }
+) -> Result<Accepted, Refusal>
+    requires header_value { let d : Description = description_of header void.now stress.now conductivity_void.now conductivity.now solids.now water.old table_time.now table_load.now in (header_sound header ≡ true) × (first_cause (described_causes d) ≡ None) }
+    requires levels_value { (levels.top ≡ head (pos header.top_level)) × (levels.bottom ≡ head (pos header.bottom_level)) }
     requires water_len { (length water.old ≡ 128) × (length burden.old ≡ 128) }
     ensures value { let d : Description = description_of header void.now stress.now conductivity_void.now conductivity.now solids.now water.old table_time.now table_load.now in result ≡ accepted d }
     ensures water_after { let d : Description = description_of header void.now stress.now conductivity_void.now conductivity.now solids.now water.old table_time.now table_load.now in water.new ≡ accepted_water d }
@@ -113,10 +107,10 @@ pub fn accept_start<'a>(
         stress,
         water,
     ) {
-        return Acceptance::Refused(Refusal::StartOffCurve);
+        return Err(Refusal::StartOffCurve);
     }
     let starting = balance::total_water(elements, water);
-    let frame = record::frame(header, top_level, bottom_level, starting);
+    let frame = record::frame(header, levels, starting);
     let progress = record::opening_progress(load);
     if !starts::start_steady(
         header,
@@ -132,7 +126,7 @@ pub fn accept_start<'a>(
         table_time,
         table_load,
     ) {
-        return Acceptance::Refused(Refusal::StartNotSteady);
+        return Err(Refusal::StartNotSteady);
     }
-    Acceptance::Accepted(frame, progress)
+    Ok(Accepted { frame, progress })
 }

@@ -4,7 +4,8 @@ ghost use Rattle.acceptance.specs.Accepting.{progress_at};
 ghost use Rattle.rules.specs.Job.{counts_of, frame_of, numbered_face};
 ghost use Rattle.quantities.specs.Quantities.{level_limits, stress_limits, head};
 
-use quantities::{Clock, Face, Head, Outflow, Pressure};
+use description::fields::Levels;
+use quantities::{Clock, Face, Outflow, Pressure};
 use record_parts::faces;
 use rules::job::Header;
 use rules::record::{CurveCounts, Frame, Progress};
@@ -20,12 +21,12 @@ pub fn numbered_face(number: u64, held: Pressure) -> Face
 }
 
 // The numbers of a header's layer that no call changes, with its levels and its starting water.
-pub fn frame(header: Header, top_level: Head, bottom_level: Head, starting_water: u64) -> Frame
-    requires top_level_value { (top_level ≡ head (pos header.top_level)) × (bottom_level ≡ head (pos header.bottom_level)) }
+pub fn frame(header: Header, levels: Levels, starting_water: u64) -> Frame
+    requires levels_value { (levels.top ≡ head (pos header.top_level)) × (levels.bottom ≡ head (pos header.bottom_level)) }
     requires top_level_bound { (header.top_level ≤ level_limits.most) × (header.bottom_level ≤ level_limits.most) }
     ensures { result ≡ frame_of header starting_water }
 {
-    let held = faces::bottom_pressure(top_level, bottom_level);
+    let held = faces::bottom_pressure(levels.top, levels.bottom);
     let top = numbered_face(header.top, Pressure(0));
     let bottom = numbered_face(header.bottom, held);
     Frame {
@@ -34,8 +35,8 @@ pub fn frame(header: Header, top_level: Head, bottom_level: Head, starting_water
         elements: header.elements,
         table_points: header.table_points,
         gravity: header.gravity,
-        top_level,
-        bottom_level,
+        top_level: levels.top,
+        bottom_level: levels.bottom,
         starting_water,
     }
 }

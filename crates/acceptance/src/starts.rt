@@ -33,11 +33,7 @@ pub fn clear(elements: usize, numbers: &mut [u64; 128])
     requires { (elements ≤ 128) × (length numbers.old ≡ 128) }
     ensures { numbers.new ≡ filled numbers.old elements (λ _. 0) }
 {
-    let mut j: usize = 0;
-    while j < elements {
-        numbers[j] = 0;
-        j += 1;
-    }
+    numbers[..elements].fill(0);
 }
 
 // Whether a start has water: then it is put in place of the water that is given, which otherwise stays.

@@ -12,6 +12,7 @@ ghost use Rattle.rules.specs.Run.{stop_number};
 use rules::answers::{Answer, Refusal, Stop};
 
 // The paper's number of a cause.
+#[tactic(auto, unfolding(rules::specs::Refusals::refusal_number))]
 pub fn refusal_number(cause: Refusal) -> u64
     ensures { result ≡ refusal_number cause }
 {
@@ -40,6 +41,7 @@ pub fn refusal_number(cause: Refusal) -> u64
 }
 
 // The paper's number of a stop.
+#[tactic(auto, unfolding(rules::specs::Run::stop_number))]
 pub fn stop_number(stop: Stop) -> u64
     ensures { result ≡ stop_number stop }
 {
@@ -52,6 +54,7 @@ pub fn stop_number(stop: Stop) -> u64
 }
 
 // The number returned with an answer: 0, or the cause's.
+#[tactic(auto, unfolding(rules::specs::Outcome::answer_number))]
 pub fn answer_number(answer: Answer) -> u64
     ensures { result ≡ answer_number answer }
 {
@@ -67,14 +70,7 @@ pub fn refused_line(number: u32, out: &mut [u8]) -> usize
     requires { (number < 100) × (16 ≤ length out.old) }
     ensures { (out.new ≡ overlaid (refused_line number) out.old) × (result ≡ length (refused_line number)) }
 {
-    out[0] = b'r';
-    out[1] = b'e';
-    out[2] = b'f';
-    out[3] = b'u';
-    out[4] = b's';
-    out[5] = b'e';
-    out[6] = b'd';
-    out[7] = b' ';
+    out[..8].copy_from_slice(b"refused ");
     if number < 10 {
         out[8] = 48 + number as u8;
         out[9] = b'\n';

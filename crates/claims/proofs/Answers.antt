@@ -3,7 +3,7 @@ use Prim.Native.Nat.{ℕ}
 use native.Mathlib.Omega.{arith}
 use lib.IntN.{pos}
 use mathlib.Core.List.{List, [], ◌∷◌}
-use mathlib.Core.Option.{none, some}
+use Rattle.std.specs.Prelude.{None, Some}
 use mathlib.Core.Path.{◌≡◌}
 use Rattle.claims.proofs.Causes.{load_trials, step_trials, run_trials, cause_tried, by_first}
 use Rattle.laws.specs.Every.{Every}
@@ -30,7 +30,7 @@ apart z = omega arith
 
 -- a refusal for a cause other than 11, or an answer that is none of it
 by_cause : (trials : List Trial) (o : Outcome) → Every (λ trial. trial.cause ≡ NoLayer → ⊥) trials → OnLayer o.answer →
-    OnLayer (elim (first_cause trials) as (λ _. Outcome) [ some cause ↦ refused cause | none ↦ o ]).answer
+    OnLayer (elim (first_cause trials) as (λ _. Outcome) [ Some cause ↦ refused cause | None ↦ o ]).answer
 unfolding refused
 by_cause trials o other done =
     by_first (λ o. OnLayer o.answer) trials o (λ cause e p. cause_tried (λ c. c ≡ NoLayer → ⊥) trials cause other e (cc)) (λ _. done)

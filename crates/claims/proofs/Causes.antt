@@ -4,7 +4,7 @@ use native.Mathlib.Omega.{arith}
 use lib.Dec.{T, ltb}
 use mathlib.Core.Bool.{Bool, true, false, not, ◌||◌}
 use mathlib.Core.List.{List, [], ◌∷◌}
-use mathlib.Core.Option.{Option, none, some}
+use Rattle.std.specs.Prelude.{Option, None, Some}
 use mathlib.Core.Path.{◌≡◌, refl, sym, subst}
 use Rattle.laws.specs.Every.{Every}
 use Rattle.rules.specs.Layer.{Site, State}
@@ -31,7 +31,7 @@ run_trials s end budget =
 
 -- ---- lists of trials
 
-pub none_some : {A : Type 0} (a : A) → none ≡ some a → ⊥
+pub none_some : {A : Type 0} (a : A) → None ≡ Some a → ⊥
 none_some a e = let z : ◌≡◌ {A = ℕ} 0 1 = cc in omega arith
 
 -- a test that failed to fail passed
@@ -45,36 +45,36 @@ neither true b t = absurd t
 neither false b t = (tt, t)
 
 -- where there is no first cause, none holds
-pub none_holds : (trials : List Trial) → first_cause trials ≡ none → Every (λ trial. T (not trial.holds)) trials
+pub none_holds : (trials : List Trial) → first_cause trials ≡ None → Every (λ trial. T (not trial.holds)) trials
 unfolding first_cause Every
 none_holds [] e = tt
 none_holds (trial ∷ rest) e = go trial.holds e (none_holds rest)
   where
-    go : (holds : Bool) → ◌≡◌ {A = Option Refusal} (elim holds [ true ↦ some trial.cause | false ↦ first_cause rest ]) none →
-        (first_cause rest ≡ none → Every (λ trial. T (not trial.holds)) rest) →
+    go : (holds : Bool) → ◌≡◌ {A = Option Refusal} (elim holds [ true ↦ Some trial.cause | false ↦ first_cause rest ]) None →
+        (first_cause rest ≡ None → Every (λ trial. T (not trial.holds)) rest) →
         T (not holds) × Every (λ trial. T (not trial.holds)) rest
     go true e later = absurd (none_some trial.cause (sym e))
     go false e later = (tt, later e)
 
 -- the first cause is one of those tried
 pub cause_tried : (P : Refusal → Type 0) (trials : List Trial) (cause : Refusal) → Every (λ trial. P trial.cause) trials →
-    first_cause trials ≡ some cause → P cause
+    first_cause trials ≡ Some cause → P cause
 unfolding first_cause Every
 cause_tried P [] cause all e = absurd (none_some cause e)
 cause_tried P (trial ∷ rest) cause all e = go trial.holds e (cause_tried P rest cause all.1)
   where
-    go : (holds : Bool) → elim holds [ true ↦ some trial.cause | false ↦ first_cause rest ] ≡ some cause →
-        (first_cause rest ≡ some cause → P cause) → P cause
+    go : (holds : Bool) → elim holds [ true ↦ Some trial.cause | false ↦ first_cause rest ] ≡ Some cause →
+        (first_cause rest ≡ Some cause → P cause) → P cause
     go true e later = let same : trial.cause ≡ cause = cc in subst P same all.0
     go false e later = later e
 
 -- what holds of every refusal for the first cause, and of the outcome where no cause holds
 pub by_first : (P : Outcome → Type 0) (trials : List Trial) (o : Outcome) →
-    ((cause : Refusal) → first_cause trials ≡ some cause → P (refused cause)) →
+    ((cause : Refusal) → first_cause trials ≡ Some cause → P (refused cause)) →
     (Every (λ trial. T (not trial.holds)) trials → P o) →
-    P (elim (first_cause trials) [ some cause ↦ refused cause | none ↦ o ])
+    P (elim (first_cause trials) [ Some cause ↦ refused cause | None ↦ o ])
 by_first P trials o held free = go (first_cause trials) refl
   where
-    go : (c : Option Refusal) → first_cause trials ≡ c → P (elim c [ some cause ↦ refused cause | none ↦ o ])
-    go (some cause) e = held cause e
-    go none e = free (none_holds trials e)
+    go : (c : Option Refusal) → first_cause trials ≡ c → P (elim c [ Some cause ↦ refused cause | None ↦ o ])
+    go (Some cause) e = held cause e
+    go None e = free (none_holds trials e)

@@ -4,7 +4,7 @@ use native.Mathlib.Omega.{arith}
 use lib.Dec.{T, eqb, eqb-suc-zero}
 use mathlib.Core.Bool.{Bool, true, not}
 use mathlib.Core.List.{List}
-use mathlib.Core.Option.{none}
+use Rattle.std.specs.Prelude.{None}
 use mathlib.Core.Path.{◌≡◌, refl}
 use Rattle.claims.proofs.Causes.{twice_not, neither, none_holds}
 use Rattle.claims.proofs.Fixed.{Fixed, sized_dry}
@@ -35,7 +35,7 @@ pub record Described (d : Description) : Type 0 where
   pub conductivity : conductivity_sound (job_site d).conductivity (job_site d).compressibility ≡ true
   pub table : table_sound (job_site d).load_table ≡ true
 
-pub described_sound : (job : List ℕ) → first_cause (job_causes job) ≡ none → Described (described job)
+pub described_sound : (job : List ℕ) → first_cause (job_causes job) ≡ None → Described (described job)
 unfolding job_causes Every
 described_sound job e =
     let d = described job in

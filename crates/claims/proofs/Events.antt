@@ -16,7 +16,8 @@ use Rattle.numbers.proofs.Signed.{signed}
 use Rattle.rules.specs.Layer.{Site, State}
 use Rattle.rules.specs.Load.{table_sound, load_at, with_load, load_refusal}
 use Rattle.rules.specs.Outcome.{refused, ran, outcome}
-use Rattle.quantities.specs.Quantities.{Limits, within, stress_limits, clock_limits, step_limits, budget_limits}
+use Rattle.quantities.specs.Quantities.{within, stress_limits, clock_limits, step_limits, budget_limits}
+use Rattle.quantities.specs.declared.quantity.Limits.{Limits}
 use Rattle.rules.specs.Run.{load_set, step_taken, after_event, longest_reach, longest_step}
 use Rattle.rules.specs.Run.{Turn, stops, goes, turn, RunOutcome, running, run_refusal}
 use Rattle.rules.specs.Step.{stepped, too_long, leaves_curve, step_refusal}

@@ -6,7 +6,7 @@ use lib.ListN.{length}
 use mathlib.Core.Bool.{true}
 use mathlib.Core.List.{List, []}
 use mathlib.Core.Logic.{◌⊎◌, inl, inr}
-use mathlib.Core.Option.{Option, none, some}
+use Rattle.std.specs.Prelude.{Option, None, Some}
 use mathlib.Core.Path.{◌≡◌, refl, sym, ◌∙◌}
 use Rattle.claims.proofs.Accepted.{LoadKept}
 use Rattle.claims.proofs.TableLoads.{sound_first}
@@ -41,22 +41,22 @@ opening_either job = found (first_cause (job_causes job)) (started (described jo
   where
     found : (first : Option Refusal) (start : Started) →
         let a : Answered = elim first as (λ _. Answered) [
-          | some cause ↦ refused_opening cause
-          | none ↦ elim start as (λ _. Answered) [
+          | Some cause ↦ refused_opening cause
+          | None ↦ elim start as (λ _. Answered) [
             | not_started cause ↦ refused_opening cause
             | started_with water ↦ record { answer = Done; after = opened_record (described job) water }
           ]
         ] in
         ((cause : Refusal) × (a ≡ refused_opening cause)) ⊎ (a.answer ≡ Done)
-    found (some cause) start = inl (cause, refl)
-    found none (not_started cause) = inl (cause, refl)
-    found none (started_with water) = inr refl
+    found (Some cause) start = inl (cause, refl)
+    found None (not_started cause) = inl (cause, refl)
+    found None (started_with water) = inr refl
 
 -- what opening found in a job that it accepts
 pub record Opened (job : List ℕ) : Type 0 where
   pub water : List ℕ
-  pub no_cause : first_cause (job_causes job) ≡ none
-  pub starts : description_water (described job) ≡ some water
+  pub no_cause : first_cause (job_causes job) ≡ None
+  pub starts : description_water (described job) ≡ Some water
   pub steadied : start_steady (described job) water ≡ true
   pub left : (opening job).after ≡ opened_record (described job) water
 
@@ -71,7 +71,7 @@ opened job e = causes (first_cause (job_causes job)) refl e
     found (not_started cause) = refused_opening cause
     found (started_with water) = record { answer = Done; after = opened_record (described job) water }
 
-    start : (o : Started) → started (described job) ≡ o → first_cause (job_causes job) ≡ none → (found o).answer ≡ Done → Opened job
+    start : (o : Started) → started (described job) ≡ o → first_cause (job_causes job) ≡ None → (found o).answer ≡ Done → Opened job
     start (not_started cause) p q e = absurd (refused_done cause e)
     start (started_with water) p q e =
         let (starts, steadied) = started_parts (described job) water p in
@@ -79,15 +79,15 @@ opened job e = causes (first_cause (job_causes job)) refl e
 
     causes : (o : Option Refusal) → first_cause (job_causes job) ≡ o →
         (elim o as (λ _. Answered) [
-          | some cause ↦ refused_opening cause
-          | none ↦ found (started (described job))
+          | Some cause ↦ refused_opening cause
+          | None ↦ found (started (described job))
         ]).answer ≡ Done → Opened job
-    causes (some cause) q e = absurd (refused_done cause e)
-    causes none q e = start (started (described job)) refl q e
+    causes (Some cause) q e = absurd (refused_done cause e)
+    causes None q e = start (started (described job)) refl q e
 
 -- ---- its record
 
-module _ (d : Description) (s : Described d) (water : List ℕ) (starts : description_water d ≡ some water) where
+module _ (d : Description) (s : Described d) (water : List ℕ) (starts : description_water d ≡ Some water) where
   abbrev site : Site
   site = job_site d
 

@@ -1,6 +1,6 @@
 -- Term 3: what holds after every list of calls, each given the record as the one before left it, on every job that opening accepts.
 use Rattle.std.specs.Prelude.{ℕ, pos, ◌+ℤ◌, ◌-ℤ◌, List, ◌≡◌}
-use Rattle.std.proofs.Math.Option.{some}
+use Rattle.std.specs.Prelude.{Some}
 use Rattle.claims.specs.Pressures.{least_excess, greatest_excess, NeverFell, NotNegative, NoHeadBelow, NotLowered}
 use Rattle.laws.specs.Amid.{Between}
 use Rattle.laws.specs.Every.{Every}
@@ -53,5 +53,5 @@ Term3Holds job calls =
     (opening job).answer ≡ Done →
     let site = job_site (described job) in
     let replay = replayed (opening job).after calls in
-    (water : List ℕ) × (description_water (described job) ≡ some water) ×
+    (water : List ℕ) × (description_water (described job) ≡ Some water) ×
     Term3 site (begun site water) (course site calls (begun site water)) replay.answers replay.after

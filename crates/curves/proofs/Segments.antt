@@ -15,13 +15,13 @@ use Rattle.numbers.specs.Interpolation.{distance}
 use Rattle.numbers.proofs.Searches.{passed}
 use Rattle.rules.specs.Curve.{point, points, spans, interpolated, curve_at, segment_at, is_on, value_of}
 use Rattle.quantities.specs.Quantities.{stress_limits, void_limits}
-use Rattle.quantities.specs.declared.CurveValue.TheVariants.{On, Off}
+use Rattle.std.specs.Prelude.{None, Some}
 use Rattle.rules.proofs.Points.{at, from_segment, from_point, from_last, from_end}
 use Rattle.curves.specs.Named.{point_in, ReadOn}
 use Rattle.curves.specs.Smooth.{Smooth}
 
 -- what is off the curve is not on it
-pub not_on : {A : Type 0} (y : ℕ) → Off ≡ On y → A
+pub not_on : {A : Type 0} (y : ℕ) → None ≡ Some y → A
 unfolding is_on
 not_on y e = absurd (subst (λ v. T (is_on v)) (sym e) tt)
 
@@ -59,7 +59,7 @@ module _ (n : ℕ) (xs ys : List ℕ) (x i : ℕ) where
 
   -- the first segment from here spans x, or not, or there is none
   pub read_here : {y : ℕ} → i + 1 < n → spans (at n xs ys i) (at n xs ys (i + 1)) x ≡ true → y ≡ interpolated (at n xs ys i) (at n xs ys (i + 1)) x →
-      On y ≡ curve_at (drop i (points n xs ys)) x
+      Some y ≡ curve_at (drop i (points n xs ys)) x
   unfolding curve_at
   read_here h e is = rw (is, from_segment n xs ys i h, e, curve_at)
 
@@ -68,11 +68,11 @@ module _ (n : ℕ) (xs ys : List ℕ) (x i : ℕ) where
   unfolding curve_at
   read_on h e = rw (from_segment n xs ys i h, from_point n xs ys (i + 1) h, e, curve_at)
 
-  pub read_end : n ≤ i + 1 → curve_at (drop i (points n xs ys)) x ≡ Off
+  pub read_end : n ≤ i + 1 → curve_at (drop i (points n xs ys)) x ≡ None
   unfolding curve_at
   read_end h = go (leb n i) refl
     where
-      go : (c : Bool) → leb n i ≡ c → curve_at (drop i (points n xs ys)) x ≡ Off
+      go : (c : Bool) → leb n i ≡ c → curve_at (drop i (points n xs ys)) x ≡ None
       go true e = rw (from_end n xs ys i (leb-true n i e))
       go false e = let k = leb-false n i e in rw (from_last n xs ys i (omega arith))
 
@@ -92,18 +92,18 @@ module _ (n : ℕ) (xs ys : List ℕ) (x i : ℕ) where
       omega (arith, so, on)
 
   -- a value that a segment gives names that segment
-  pub named : {y : ℕ} → OnSegment (point_in xs ys i) (point_in xs ys (i + 1)) x y → ReadOn xs ys x i (On y)
+  pub named : {y : ℕ} → OnSegment (point_in xs ys i) (point_in xs ys (i + 1)) x y → ReadOn xs ys x i (Some y)
   unfolding value_of
   named s = λ y e. subst (λ y. OnSegment (point_in xs ys i) (point_in xs ys (i + 1)) x y) (ap value_of e) s
 
   -- any segment that spans x reads the curve
   pub read_any : {y : ℕ} → Smooth n xs ys → i + 1 < n → spans (at n xs ys i) (at n xs ys (i + 1)) x ≡ true →
-      y ≡ interpolated (at n xs ys i) (at n xs ys (i + 1)) x → On y ≡ curve_at (points n xs ys) x
+      y ≡ interpolated (at n xs ys i) (at n xs ys (i + 1)) x → Some y ≡ curve_at (points n xs ys) x
   unfolding points
   read_any smooth h e is =
       let d = point 0 0 in
       let here : get_or (points n xs ys) i d ≡ at n xs ys i = get_or-tabulate n (at n xs ys) i d (omega arith) in
       let next : get_or (points n xs ys) (suc i) d ≡ at n xs ys (i + 1) = rw (← add-one i) (get_or-tabulate n (at n xs ys) (i + 1) d h) in
-      ap On is ∙
+      ap Some is ∙
       sym (rw (here, next) at
       (read_by_segment (points n xs ys) i d x smooth.one_way (rw (length-tabulate n (at n xs ys)) (omega arith)) (rw (here, next) (passed e))))

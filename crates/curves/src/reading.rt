@@ -4,16 +4,14 @@ ghost use Rattle.curves.specs.Named.{ReadOn};
 ghost use Rattle.curves.specs.Smooth.{Smooth};
 ghost use Rattle.laws.specs.Segment.{OnSegment};
 ghost use Rattle.numbers.specs.Interpolation.{distance};
-ghost use Rattle.quantities.specs.declared.CurveValue.TheVariants.{On};
+ghost use Rattle.std.specs.Prelude.{Some};
 ghost use Rattle.rules.specs.Curve.{point, points, spans, curve_at, segment_at, is_on, value_of};
 ghost use Rattle.quantities.specs.Quantities.{stress_limits, void_limits, curve_limits};
-
-use quantities::CurveValue;
 
 // What a reading found, and the segment where it looked last: a hint for the next reading.
 #[derive(Clone, Copy)]
 pub struct Found {
-    pub value: CurveValue,
+    pub value: Option<u64>,
     pub segment: usize,
 }
 
@@ -35,7 +33,7 @@ pub fn interpolated(x0: u64, y0: u64, x1: u64, y1: u64, x: u64) -> u64
     requires x_bound { distance x0 x ≤ distance x0 x1 }
     ensures { OnSegment (point x0 y0) (point x1 y1) x result }
 {
-    y0 + numbers::share(y1 - y0, numbers::distance(x0, x), numbers::distance(x0, x1))
+    y0 + numbers::share(y1 - y0, x0.abs_diff(x), x0.abs_diff(x1))
 }
 
 // What the curve gives at x, by the first segment that spans it.
@@ -44,22 +42,20 @@ pub fn read_from_first<'a>(count: usize, xs: &'a [u64; 64], ys: &'a [u64; 64], x
     requires smooth { Smooth count xs.now ys.now }
     ensures value_value { (result.value ≡ curve_at (points count xs.now ys.now) x) × (result.segment + 1 < count) }
     ensures read_on { ReadOn xs.now ys.now x result.segment result.value }
-    ensures by_index { (y : ℕ) → result.value ≡ On y → result.segment ≡ segment_at (points count xs.now ys.now) x }
+    ensures by_index { (y : ℕ) → result.value ≡ Some y → result.segment ≡ segment_at (points count xs.now ys.now) x }
 {
-    let mut i: usize = 0;
-    while i + 1 < count {
+    for i in 0..count - 1 {
         let x0 = xs[i];
         let x1 = xs[i + 1];
         if spans(x0, x1, x) {
             return Found {
-                value: CurveValue::On(interpolated(x0, ys[i], x1, ys[i + 1], x)),
+                value: Some(interpolated(x0, ys[i], x1, ys[i + 1], x)),
                 segment: i,
             };
         }
-        i += 1;
     }
     Found {
-        value: CurveValue::Off,
+        value: None,
         segment: 0,
     }
 }
@@ -76,7 +72,7 @@ pub fn read<'a>(count: usize, xs: &'a [u64; 64], ys: &'a [u64; 64], x: u64, hint
         let x1 = xs[hint + 1];
         if spans(x0, x1, x) {
             return Found {
-                value: CurveValue::On(interpolated(x0, ys[hint], x1, ys[hint + 1], x)),
+                value: Some(interpolated(x0, ys[hint], x1, ys[hint + 1], x)),
                 segment: hint,
             };
         }
@@ -85,21 +81,15 @@ pub fn read<'a>(count: usize, xs: &'a [u64; 64], ys: &'a [u64; 64], x: u64, hint
 }
 
 // The value on the curve, 0 off it.
-pub fn value_of(value: CurveValue) -> u64
+pub fn value_of(value: Option<u64>) -> u64
     ensures { result ≡ value_of value }
 {
-    match value {
-        CurveValue::On(on) => on,
-        CurveValue::Off => 0,
-    }
+    value.unwrap_or(0)
 }
 
 // Whether it is on the curve.
-pub fn is_on(value: CurveValue) -> bool
+pub fn is_on(value: Option<u64>) -> bool
     ensures { result ≡ is_on value }
 {
-    match value {
-        CurveValue::On(_) => true,
-        CurveValue::Off => false,
-    }
+    value.is_some()
 }

@@ -14,17 +14,16 @@ pub fn segment_steepness(void0: u64, stress0: u64, void1: u64, stress1: u64) -> 
 }
 
 // The steepness of the whole curve.
+#[tactic(auto, using(rules::proofs::Sound::steepness_step, rules::proofs::Sound::steepness_end))]
 pub fn curve_steepness<'a>(count: usize, void: &'a [u64; 64], stress: &'a [u64; 64]) -> u64
     requires count_le_most { count ≤ curve_limits.most }
     requires stress_value { compressibility_sound (points count void.now stress.now) ≡ true }
     ensures { result ≡ curve_steepness (points count void.now stress.now) }
 {
     let mut most: u64 = 0;
-    let mut i: usize = 0;
-    while i + 1 < count {
-        let one = segment_steepness(void[i], stress[i], void[i + 1], stress[i + 1]);
-        most = numbers::greater(most, one);
-        i += 1;
+    for i in 1..count {
+        let one = segment_steepness(void[i - 1], stress[i - 1], void[i], stress[i]);
+        most = most.max(one);
     }
     most
 }

@@ -6,8 +6,9 @@ use mathlib.Core.Bool.{Bool, true, false, not, ◌&&◌, ◌||◌}
 use mathlib.Core.List.{List, [], ◌∷◌}
 use mathlib.Core.Path.{◌≡◌, refl}
 use Rattle.description.specs.Causes.{fields_answer}
-use Rattle.description.specs.declared.fields.Fields.{Fields}
-use Rattle.description.specs.declared.fields.Fields.TheVariants.{Within, Outside}
+use Rattle.description.specs.Causes.{levels_of}
+use Rattle.description.specs.declared.fields.Levels.{Levels}
+use Rattle.std.specs.Prelude.{if◌then◌else◌, Option, None, Some}
 use Rattle.numbers.specs.Arrays.{first_places}
 use Rattle.numbers.specs.Lists.{all}
 use Rattle.quantities.proofs.Limits.{only_zero}
@@ -80,28 +81,19 @@ module _ (d : Description) where
   pub fields_answer_lem : {top bottom ended rest : Bool} → within level_limits d.header.top_level ≡ top →
       within level_limits d.header.bottom_level ≡ bottom → within clock_limits d.header.end ≡ ended → others ≡ rest →
       fields_answer d ≡
-      elim (top && bottom && ended && rest) [
-        | true ↦ Within (head (pos d.header.top_level)) (head (pos d.header.bottom_level))
-        | false ↦ Outside
-      ]
+      (if top && bottom && ended && rest then Some (levels_of d) else None)
   unfolding fields_answer
   fields_answer_lem e₁ e₂ e₃ e₄ = rw (fields_by, e₁, e₂, e₃, e₄, fields_answer)
 
   -- what an answer tells
-  abbrev pub FieldsTell : Fields → Type 0
-  FieldsTell (Within top bottom) =
-      (fields_sound d ≡ true) × (top ≡ head (pos d.header.top_level)) × (bottom ≡ head (pos d.header.bottom_level))
-  FieldsTell Outside = fields_sound d ≡ false
+  abbrev pub FieldsTell : Option Levels → Type 0
+  FieldsTell (Some levels) = (fields_sound d ≡ true) × (levels ≡ levels_of d)
+  FieldsTell None = fields_sound d ≡ false
 
-  pub fields_tell : {answer : Fields} → answer ≡ fields_answer d → FieldsTell answer
+  pub fields_tell : {answer : Option Levels} → answer ≡ fields_answer d → FieldsTell answer
   unfolding fields_answer
   fields_tell told = rw told (go (fields_sound d) refl)
     where
-      go : (sound : Bool) → fields_sound d ≡ sound →
-          FieldsTell
-          (elim sound [
-            | true ↦ Within (head (pos d.header.top_level)) (head (pos d.header.bottom_level))
-            | false ↦ Outside
-          ])
-      go true e = (e, refl, refl)
+      go : (sound : Bool) → fields_sound d ≡ sound → FieldsTell (if sound then Some (levels_of d) else None)
+      go true e = (e, refl)
       go false e = e

@@ -5,20 +5,12 @@ ghost use Rattle.description.specs.Lent.{description_of};
 ghost use Rattle.rules.specs.Job.{Description, header_sound};
 
 use crate::fields;
-use crate::fields::Fields;
+use crate::fields::Levels;
 use points::checks;
-use quantities::Head;
 use rules::answers::Refusal;
 use rules::job::Header;
 
-// The levels of a sound description, or the cause for which it is refused.
-#[derive(Clone, Copy)]
-pub enum Checked {
-    Sound(Head, Head),
-    Refused(Refusal),
-}
-
-// The first of these causes that holds of a description.
+// The first of these causes that holds of a description, or its levels.
 pub fn described_cause<'a>(
     header: Header,
     void: &'a [u64; 64],
@@ -29,17 +21,17 @@ pub fn described_cause<'a>(
     water: &'a [u64; 128],
     table_time: &'a [u64; 64],
     table_load: &'a [u64; 64],
-) -> Checked
+) -> Result<Levels, Refusal>
     requires header_value { header_sound header ≡ true }
     ensures { let d : Description = description_of header void.now stress.now conductivity_void.now conductivity.now solids.now water.now table_time.now table_load.now in result ≡ described_answer d }
 {
     let compressibility_points = header.compressibility_points;
     let conductivity_points = header.conductivity_points;
-    let Fields::Within(top_level, bottom_level) = fields::check_fields(header, solids, water) else {
-        return Checked::Refused(Refusal::FieldOutside);
+    let Some(levels) = fields::check_fields(header, solids, water) else {
+        return Err(Refusal::FieldOutside);
     };
     if !checks::compressibility_sound(compressibility_points, void, stress) {
-        return Checked::Refused(Refusal::CompressibilityCurve);
+        return Err(Refusal::CompressibilityCurve);
     }
     if !checks::conductivity_sound(
         conductivity_points,
@@ -49,10 +41,10 @@ pub fn described_cause<'a>(
         void,
         stress,
     ) {
-        return Checked::Refused(Refusal::ConductivityCurve);
+        return Err(Refusal::ConductivityCurve);
     }
     if !table::table_sound(header.table_points, table_time, table_load) {
-        return Checked::Refused(Refusal::LoadTable);
+        return Err(Refusal::LoadTable);
     }
-    Checked::Sound(top_level, bottom_level)
+    Ok(levels)
 }

@@ -5,15 +5,15 @@ use lib.IntN.{ℤ}
 use lib.ListN.{length}
 use mathlib.Core.Bool.{Bool, true, false}
 use mathlib.Core.List.{List, [], ◌∷◌}
-use mathlib.Core.Logic.{◌⊎◌, ⊎_elim}
-use mathlib.Core.Option.{none, some}
+use mathlib.Core.Logic.{⊎_elim}
+use Rattle.std.specs.Prelude.{None, Some}
 use mathlib.Core.Path.{◌≡◌, refl, sym, ap, ◌∙◌}
 use native.Mathlib.Omega.{arith}
 use Rattle.claims.proofs.Opened.{opening_either, opened_record_lem}
 use Rattle.claims.proofs.Stands.{stands_layer}
 use Rattle.division.specs.JobFlows.{JobFlows, job_run, divided_number, refused_flows, call_flows, no_room, run_to_flows, job_flows}
 use Rattle.record_flows.specs.Dividing.{entry_count, dividing}
-use Rattle.record_flows.specs.declared.Divided.{Divided}
+use Rattle.std.specs.Prelude.{Result}
 use Rattle.rules.specs.Calls.{called}
 use Rattle.rules.specs.Opening.{refused_opening, opening}
 use Rattle.rules.specs.Outcome.{outcome, refusal_of}
@@ -39,7 +39,7 @@ returns_as e told = rw e told
 
 module _ (r : Record) (t : ℕ) (flows remainders : List ℤ) where
   -- the call
-  pub call_returns : {answer : Divided} {number : ℤ} {f m : List ℤ} → answer ≡ (dividing r t flows remainders).answer →
+  pub call_returns : {answer : Result ℕ Refusal} {number : ℤ} {f m : List ℤ} → answer ≡ (dividing r t flows remainders).answer →
       f ≡ (dividing r t flows remainders).flows → m ≡ (dividing r t flows remainders).remainders → number ≡ divided_number answer →
       Returns (call_flows r t flows remainders) number f m
   unfolding call_flows
@@ -93,8 +93,8 @@ module _ (job : List ℕ) (t : ℕ) (flows remainders : List ℤ) where
   by : Answer → JobFlows
   by answer =
       elim (refusal_of answer) [
-        | some cause ↦ refused_flows cause flows remainders
-        | none ↦ run_to_flows job (opening job).after t flows remainders
+        | Some cause ↦ refused_flows cause flows remainders
+        | None ↦ run_to_flows job (opening job).after t flows remainders
       ]
 
   pub job_refused : (cause : Refusal) → (opening job).answer ≡ Refused cause → job_flows job t flows remainders ≡ refused_flows cause flows remainders

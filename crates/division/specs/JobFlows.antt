@@ -1,9 +1,8 @@
 -- Flows with what the division left, of the layer that a job's run leaves: what is returned, and left in both buffers.
 use Rattle.std.specs.Prelude.{ℕ, ltb, ℤ, pos, neg_ℤ, length, Bool, cond, ◌||◌, List}
-use Rattle.std.proofs.Math.Option.{none, some}
+use Rattle.std.specs.Prelude.{None, Some}
 use Rattle.record_flows.specs.Dividing.{entry_count, dividing}
-use Rattle.record_flows.specs.declared.Divided.{Divided}
-use Rattle.record_flows.specs.declared.Divided.TheVariants.{Entries, Refused}
+use Rattle.std.specs.Prelude.{Result, Ok, Err}
 use Rattle.rules.specs.Calls.{called}
 use Rattle.rules.specs.Job.{described}
 use Rattle.rules.specs.Opening.{opening}
@@ -29,10 +28,10 @@ unfoldable pub minus_number : Refusal → ℤ
 unfolding refusal_number
 minus_number cause = neg_ℤ (pos (refusal_number cause))
 
-unfoldable pub divided_number : Divided → ℤ
+unfoldable pub divided_number : Result ℕ Refusal → ℤ
 unfolding minus_number
-divided_number (Entries n) = pos n
-divided_number (Refused cause) = minus_number cause
+divided_number (Ok n) = pos n
+divided_number (Err cause) = minus_number cause
 
 abbrev pub refused_flows : Refusal → (flows remainders : List ℤ) → JobFlows
 refused_flows cause flows remainders = record { number = minus_number cause; flows = flows; remainders = remainders }
@@ -59,6 +58,6 @@ unfoldable pub job_flows : (job : List ℕ) (t : ℕ) (flows remainders : List �
 unfolding opening refusal_of run_to_flows minus_number
 job_flows job t flows remainders =
     elim (refusal_of (opening job).answer) [
-      | some cause ↦ refused_flows cause flows remainders
-      | none ↦ run_to_flows job (opening job).after t flows remainders
+      | Some cause ↦ refused_flows cause flows remainders
+      | None ↦ run_to_flows job (opening job).after t flows remainders
     ]

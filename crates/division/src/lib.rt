@@ -7,7 +7,6 @@ ghost use Rattle.division.specs.JobFlows.{job_run, minus_number, call_flows, run
 ghost use Rattle.record_flows.specs.Dividing.{entry_count};
 ghost use Rattle.rules.specs.Record.{is_layer};
 
-use record_flows::Divided;
 use rules::answers::{Answer, Refusal};
 use rules::record::Record;
 use words::bytes;
@@ -43,8 +42,8 @@ pub fn call_flows(r: Record, t: u64, flows: &mut [i64], remainders: &mut [i64]) 
 {
     let answer = record_flows::divide_into(r, t, flows, remainders);
     match answer {
-        Divided::Entries(count) => count as i64,
-        Divided::Refused(cause) => minus_number(cause),
+        Ok(count) => count as i64,
+        Err(cause) => minus_number(cause),
     }
 }
 

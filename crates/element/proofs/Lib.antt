@@ -1,2 +1,3 @@
--- Laws of the flows by index.
+-- Laws of the flows by index, and of what the machine computes for one.
 pub mod FlowsAt
+pub mod Machine

@@ -23,6 +23,7 @@ use rules::record::Skeleton;
 const METRE: u64 = 1_000_000_000;
 
 // E, from solids and water within their limits.
+#[tactic(auto, unfolding(rules::specs::Layer::void_ratio))]
 pub fn void_ratio(solids: u64, water: u64) -> u64
     requires { (0 < solids) × (water ≤ water_limits.most) }
     ensures { result ≡ void_ratio solids water }
@@ -31,6 +32,7 @@ pub fn void_ratio(solids: u64, water: u64) -> u64
 }
 
 // The effective stress, read at the element's void ratio, whatever segment the hint names.
+#[tactic(auto, unfolding(rules::specs::Layer::effective_stress))]
 pub fn effective_stress<'a>(
     solids: u64,
     water: u64,
@@ -50,6 +52,7 @@ pub fn effective_stress<'a>(
 }
 
 // b, with specific gravity in thousandths.
+#[tactic(auto, unfolding(rules::specs::Layer::buoyant_weight))]
 pub fn buoyant_weight(gravity: u64, solids: u64) -> u64
     requires least_le_gravity { (gravity_limits.least ≤ gravity) × (gravity ≤ gravity_limits.most) }
     requires solids_le_most { solids ≤ solids_limits.most }
@@ -68,6 +71,7 @@ pub fn resistance(solids: u64, water: u64, conductivity: u64) -> u64
 }
 
 // c, the most by which a nanometre of water moves the void ratio.
+#[tactic(auto, unfolding(rules::specs::Layer::sensitivity))]
 pub fn sensitivity(solids: u64) -> u64
     requires { (0 < solids) × (solids ≤ solids_limits.most) }
     ensures { result ≡ sensitivity solids }
@@ -106,6 +110,7 @@ pub fn flow_remainder(difference: i64, t: u64, resistance: u64) -> i64
 }
 
 // Out through an outer face: nothing if it is closed.
+#[tactic(auto, unfolding(rules::specs::Step::outward, crate::specs::Elements::OutwardCut, laws::specs::Faces::Holds))]
 pub fn outward(face: Face, excess: i64, t: u64, resistance: u64) -> i64
     requires within { Within excess most_excess }
     requires held_within { HeldWithin face }
@@ -121,6 +126,7 @@ pub fn outward(face: Face, excess: i64, t: u64, resistance: u64) -> i64
 }
 
 // Up through the bottom: less what goes out.
+#[tactic(auto, using(crate::proofs::Machine::out_read))]
 pub fn bottom_flow(bottom: Face, excess: i64, t: u64, resistance: u64) -> i64
     requires within { Within excess most_excess }
     requires held_within { HeldWithin bottom }

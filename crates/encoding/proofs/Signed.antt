@@ -1,13 +1,13 @@
 -- The signed number of a 64-bit field.
-use Prim.Native.Nat.{ℕ, ◌-◌, ◌^◌, ◌≤◌, ◌<◌}
+use Prim.Native.Nat.{ℕ, suc, ◌-◌, ◌^◌, ◌≤◌, ◌<◌}
 use native.Mathlib.Omega.{arith}
 use borrow.Author.Tests.{lt-ltb, le-ltb, ltb-true, ltb-false}
 use lib.Dec.{ltb}
 use lib.IntN.{pos, negsuc}
 use mathlib.Core.Bool.{Bool, true, false}
-use mathlib.Core.Path.{◌≡◌, refl}
+use mathlib.Core.Path.{◌≡◌, refl, ap}
 use mir.Syntax.{w64}
-use mir.Val.{SFits, of_z, to_z}
+use mir.Val.{SFits, of_z, to_z, sel}
 use Rattle.numbers.specs.Bytes.{signed_number}
 use Rattle.numbers.proofs.Signed.{read_back}
 
@@ -19,6 +19,15 @@ signed_number_low field h = rw (lt-ltb field (2 ^ 63) h, signed_number)
 pub signed_number_high : (field : ℕ) → 2 ^ 63 ≤ field → signed_number field ≡ negsuc (2 ^ 64 - 1 - field)
 unfolding signed_number
 signed_number_high field h = rw (le-ltb field (2 ^ 63) h, signed_number)
+
+-- it is the number that two's complement reads in the bits
+pub signed_number_bits : (field : ℕ) → to_z w64 field ≡ signed_number field
+unfolding signed_number
+signed_number_bits field = same (ltb field (2 ^ 63))
+  where
+    same : (b : Bool) → sel b (pos field) (negsuc (2 ^ 64 - suc field)) ≡ elim b [ true ↦ pos field | false ↦ negsuc (2 ^ 64 - 1 - field) ]
+    same true = refl
+    same false = ap negsuc (omega arith)
 
 -- the number of any field fits an i64
 pub signed_number_fits : (field : ℕ) → SFits w64 (signed_number field)

@@ -1,12 +1,13 @@
 -- Runs of stores, and the eight bytes of a 64-bit number.
-use Prim.Native.Nat.{ℕ, suc, ◌+◌, ◌/◌, ◌%◌, ◌≤◌}
+use Prim.Native.Nat.{ℕ, suc, ◌+◌, ◌-◌, ◌≤◌}
 use native.Mathlib.Nat.{add-zero, zero-add, suc-add, add-suc, div-div-eq-div-mul}
-use native.Mathlib.Numerals.{towards_suc}
 use native.Mathlib.Omega.{arith}
 use lib.ListN.{length, set}
-use lib.Seq.{sets, sets-eq}
-use mathlib.Core.List.{List, [], ◌∷◌, ◌++◌}
+use lib.Seq.{sets, sets-eq, drop-drop}
+use borrow.Rule.Slice.PartMut.{put_mid}
+use mathlib.Core.List.{List, [], ◌∷◌, ◌++◌, append_assoc}
 use mathlib.Core.Path.{◌≡◌, sym, ◌∙◌}
+use Rattle.std.specs.Int.{w64, to_le_bytes}
 use Rattle.numbers.specs.Arrays.{overlaid}
 use Rattle.numbers.specs.Bytes.{bytes}
 pub use Rattle.numbers.proofs.LittleEndian.{length-bytes}
@@ -26,21 +27,13 @@ pub sets_front : {A : Type 0} (l ys : List A) → length ys ≤ length l → set
 unfolding overlaid
 sets_front l ys h = sets-eq ys l 0 (omega arith) ∙ rw (zero-add (length ys))
 
--- the bytes of a 64-bit number, by powers of 256
-pub eight_bytes : (n : ℕ) →
-    n % 0x100 ∷ n / 0x100 % 0x100 ∷ n / 0x1_0000 % 0x100 ∷ n / 0x100_0000 % 0x100 ∷ n / 0x1_0000_0000 % 0x100 ∷
-    n / 0x100_0000_0000 % 0x100 ∷ n / 0x1_0000_0000_0000 % 0x100 ∷ n / 0x100_0000_0000_0000 % 0x100 ∷ [] ≡ bytes 8 n
+-- the library's bytes of a 64-bit number
+pub eight_bytes : (n : ℕ) → to_le_bytes w64 n ≡ bytes 8 n
 unfolding bytes
 eight_bytes n = simp div-div-eq-div-mul
 
--- eight stores of them, one after the other
-pub eight_stores : (l : List ℕ) (at n : ℕ) →
-    set (set (set (set (set (set (set (set l at (n % 0x100))
-    (at + 1) (n / 0x100 % 0x100))
-    (at + 2) (n / 0x1_0000 % 0x100))
-    (at + 3) (n / 0x100_0000 % 0x100))
-    (at + 4) (n / 0x1_0000_0000 % 0x100))
-    (at + 5) (n / 0x100_0000_0000 % 0x100))
-    (at + 6) (n / 0x1_0000_0000_0000 % 0x100))
-    (at + 7) (n / 0x100_0000_0000_0000 % 0x100) ≡ sets l at (bytes 8 n)
-eight_stores l at n = rw (← eight_bytes n) (simp (towards_suc, add-zero))
+-- a list copied over the places from one on is a run of stores
+pub sets_part : (l : List ℕ) (at k : ℕ) (part : List ℕ) → length part ≡ k → at + k ≤ length l → put_mid at (at + k - at) l part ≡ sets l at part
+sets_part l at k part e h =
+    let m : at + k - at ≡ length part = omega (arith, e) in
+    rw (m, drop-drop (length part) at l, ← append_assoc) (sym (sets-eq part l at (omega (arith, e))))

@@ -14,9 +14,7 @@ pub fn field(bytes: &[u8], size: usize, offset: usize) -> u64
     ensures { result ≡ field size offset bytes.now }
 {
     let mut value: u64 = 0;
-    let mut i = size;
-    while 0 < i {
-        i -= 1;
+    for i in (0..size).rev() {
         value = bytes[offset + i] as u64 + 256 * value;
     }
     value
@@ -41,10 +39,8 @@ pub fn read_column<'a>(
     requires { (count ≤ length numbers.old) × (offset + stride * count + 8 ≤ length bytes.now + stride) }
     ensures { numbers.new ≡ filled numbers.old count (column stride offset bytes.now) }
 {
-    let mut i: usize = 0;
-    while i < count {
+    for i in 0..count {
         numbers[i] = field(bytes, 8, offset + stride * i);
-        i += 1;
     }
 }
 
@@ -52,21 +48,14 @@ pub fn read_column<'a>(
 pub fn signed_field(z: i64) -> u64
     ensures { result ≡ signed_field z }
 {
-    if z < 0 {
-        return 0xffff_ffff_ffff_ffff - (-1 - z) as u64;
-    }
-    z as u64
+    z.cast_unsigned()
 }
 
 // The signed number whose bits a field holds.
 pub fn signed_number(field: u64) -> i64
     ensures { result ≡ signed_number field }
 {
-    if field < 0x8000_0000_0000_0000 {
-        field as i64
-    } else {
-        -1 - (0xffff_ffff_ffff_ffff - field) as i64
-    }
+    field.cast_signed()
 }
 
 // Stores a 64-bit number, lowest byte first.
@@ -74,14 +63,7 @@ pub fn put_word(out: &mut [u8], at: usize, n: u64)
     requires { at + 8 ≤ length out.old }
     ensures { out.new ≡ sets out.old at (numbers·bytes 8 n) }
 {
-    out[at] = (n % 0x100) as u8;
-    out[at + 1] = (n / 0x100 % 0x100) as u8;
-    out[at + 2] = (n / 0x1_0000 % 0x100) as u8;
-    out[at + 3] = (n / 0x100_0000 % 0x100) as u8;
-    out[at + 4] = (n / 0x1_0000_0000 % 0x100) as u8;
-    out[at + 5] = (n / 0x100_0000_0000 % 0x100) as u8;
-    out[at + 6] = (n / 0x1_0000_0000_0000 % 0x100) as u8;
-    out[at + 7] = (n / 0x100_0000_0000_0000 % 0x100) as u8;
+    out[at..at + 8].copy_from_slice(&n.to_le_bytes());
 }
 
 // Stores a signed 64-bit number.

@@ -10,8 +10,9 @@ use Rattle.readings.specs.Conversion.{conversion}
 use Rattle.readings.specs.declared.Reading.{Reading}
 use Rattle.readings.specs.declared.Reading.TheVariants.{Pressure, Column, Missing}
 use Rattle.record_reading.specs.Comparison.{against, compared, compared_numbers}
+use Rattle.rules.specs.declared.answers.Refusal.{Refusal}
 use Rattle.record_reading.specs.declared.Compared.{Compared}
-use Rattle.record_reading.specs.declared.Compared.TheVariants.{Refused}
+use Rattle.std.specs.Prelude.{Result, Err}
 use Rattle.record_reading.specs.declared.Numbers.{Numbers}
 use Rattle.result_elements.specs.Elements.{most_pore}
 use Rattle.rules.specs.declared.answers.Refusal.TheVariants.{ElementOutside}
@@ -33,12 +34,12 @@ abbrev pub numbers_words : Numbers → List ℕ
 numbers_words n = n.refusal ∷ n.missing ∷ n.exact ∷ n.pore ∷ n.difference ∷ []
 
 -- those of the answer to reading i, where answers are given by element and reading
-abbrev pub answer_by : ((element : ℕ) → Reading → Compared) → (readings : List ℕ) (i : ℕ) → List ℕ
+abbrev pub answer_by : ((element : ℕ) → Reading → Result Compared Refusal) → (readings : List ℕ) (i : ℕ) → List ℕ
 answer_by compare readings i =
     numbers_words (compared_numbers (compare (get_or readings (3 * i) 0) (reading_of (get_or readings (3 * i + 1) 0) (get_or readings (3 * i + 2) 0))))
 
 -- those of all answers
-abbrev pub answers_by : ((element : ℕ) → Reading → Compared) → (readings : List ℕ) → List ℕ
+abbrev pub answers_by : ((element : ℕ) → Reading → Result Compared Refusal) → (readings : List ℕ) → List ℕ
 answers_by compare readings = appended (tabulate (reading_count readings) (answer_by compare readings))
 
 -- on a record
@@ -61,9 +62,9 @@ pub record Told (result : List ℕ) : Type 0 where
   pub whole : 56 + 40 * elements_in result ≤ length result
   pub in_range : (index : ℕ) → index < elements_in result → Within (pore_in result index) most_pore
 
-abbrev pub compared_in : (result : List ℕ) (element : ℕ) → Reading → Compared
+abbrev pub compared_in : (result : List ℕ) (element : ℕ) → Reading → Result Compared Refusal
 compared_in result element reading =
-    cond (within (from 1 to (elements_in result)) element) (against (pore_in result (element - 1)) (conversion reading)) (Refused ElementOutside)
+    cond (within (from 1 to (elements_in result)) element) (against (pore_in result (element - 1)) (conversion reading)) (Err ElementOutside)
 
 abbrev pub answer_in : (result readings : List ℕ) (i : ℕ) → List ℕ
 answer_in result readings i = answer_by (compared_in result) readings i

@@ -9,6 +9,7 @@ ghost use Rattle.numbers.specs.Arrays.{overlaid};
 ghost use Rattle.quantities.specs.Quantities.{pressure};
 
 use quantities::Pressure;
+use quantities::quantity::Limits;
 use readings::Reading;
 use record_reading::{Compared, Numbers};
 use rules::answers::Refusal;
@@ -19,6 +20,7 @@ pub const READING_WORDS: usize = 3;
 pub const ANSWER_WORDS: usize = 5;
 
 // A reading by its kind: 1 a pressure, 2 a column, any other missing; its float is in the lower 32 bits of a word.
+#[tactic(auto, unfolding(crate::specs::Words::reading_of))]
 pub fn reading_of(kind: u64, word: u64) -> Reading
     ensures { result ≡ reading_of kind word }
 {
@@ -52,13 +54,18 @@ pub fn pore_in(res: &[u8], index: usize) -> Pressure
 }
 
 // A reading of an element of the layer that a result is of.
-pub fn compare_in(res: &[u8], element: u64, reading: Reading) -> Compared
+#[tactic(auto, using(crate::proofs::WordLaws::numbered, readings::proofs::Ranges::reading_within))]
+pub fn compare_in(res: &[u8], element: u64, reading: Reading) -> Result<Compared, Refusal>
     requires { Told res.now }
     ensures { result ≡ compared_in res.now element reading }
 {
     let elements = encoding::byte(res, 6);
-    if !quantities::within(1, elements as u64, element) {
-        return Compared::Refused(Refusal::ElementOutside);
+    let limits = Limits {
+        least: 1,
+        most: elements as u64,
+    };
+    if !limits.contains(element) {
+        return Err(Refusal::ElementOutside);
     }
     let pore = pore_in(res, element as usize - 1);
     record_reading::less(pore, readings::convert(reading))
@@ -87,9 +94,7 @@ pub fn answer_readings(res: &[u8], readings: &[u64], answers: &mut [u64])
     ensures { answers.new ≡ overlaid (answers_in res.now readings.now) answers.old }
 {
     let count = readings.len() / READING_WORDS;
-    let mut i: usize = 0;
-    while i < count {
+    for i in 0..count {
         answer_reading(res, i, readings, answers);
-        i += 1;
     }
 }

@@ -27,17 +27,16 @@ pub fn flows_above<'a>(
     requires above_len { length above.old ≡ 128 }
     ensures { above.new ≡ filled above.old elements (flow_above top t elements excess.now resistance.now) }
 {
-    let mut j: usize = 0;
-    while j + 1 < elements {
+    let last = elements - 1;
+    for j in 0..last {
         let next = j + 1;
         above[j] = element::flow(
             excess[j] - excess[next],
             t,
             resistance[j] + resistance[next],
         );
-        j = next;
     }
-    above[j] = element::outward(top, excess[j], t, resistance[j]);
+    above[last] = element::outward(top, excess[last], t, resistance[last]);
 }
 
 // The flows of t seconds: those above the elements in the first places, and that of the bottom.

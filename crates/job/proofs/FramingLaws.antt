@@ -6,12 +6,11 @@ use lib.ListN.{length}
 use borrow.Author.Tests.{eqb-true, ltb-false, not-false}
 use mathlib.Core.Bool.{Bool, true, false, not, ◌||◌, true≢false}
 use mathlib.Core.List.{List, [], ◌∷◌}
-use mathlib.Core.Option.{Option, none, some}
+use Rattle.std.specs.Prelude.{Option, None, Some}
 use mathlib.Core.Path.{◌≡◌, refl, sym, ap, ◌∙◌}
 use Rattle.job.proofs.FirstCause.{first_earlier, first_later, none_some}
 use Rattle.job.specs.Framing.{framing}
-use Rattle.job.specs.declared.framing.Framed.{Framed}
-use Rattle.job.specs.declared.framing.Framed.TheVariants.{Sound, Refused}
+use Rattle.std.specs.Prelude.{Result, Ok, Err}
 use Rattle.numbers.specs.Bytes.{field}
 use Rattle.rules.specs.Job.{described, header_sound, header_length, framing_causes, described_causes, job_causes, job_length, marked}
 use Rattle.rules.specs.Refusals.{◌if◌, first_cause}
@@ -24,22 +23,22 @@ neither : (a b : Bool) → a || b ≡ false → (a ≡ false) × (b ≡ false)
 neither true b e = absurd (true≢false e)
 neither false b e = (refl, e)
 
-not_sound : (cause : Refusal) (h : Header) → Refused cause ≡ Sound h → ⊥
+not_sound : (cause : Refusal) (h : Header) → Err cause ≡ Ok h → ⊥
 not_sound cause h e = let z : ◌≡◌ {A = ℕ} 0 1 = cc in omega arith
 
 -- ---- by tests
 
 -- the first of four causes, test by test, or the header
-unfoldable pub chosen : (short other outside wrong : Bool) → Header → Framed
-chosen true other outside wrong h = Refused ShortOrUnmarked
-chosen false true outside wrong h = Refused OtherVersion
-chosen false false true wrong h = Refused HeaderOutside
-chosen false false false true h = Refused WrongLength
-chosen false false false false h = Sound h
+unfoldable pub chosen : (short other outside wrong : Bool) → Header → Result Header Refusal
+chosen true other outside wrong h = Err ShortOrUnmarked
+chosen false true outside wrong h = Err OtherVersion
+chosen false false true wrong h = Err HeaderOutside
+chosen false false false true h = Err WrongLength
+chosen false false false false h = Ok h
 
 picked : (short other outside wrong : Bool) (h : Header) →
     elim (first_cause ((ShortOrUnmarked if short) ∷ (OtherVersion if other) ∷ (HeaderOutside if outside) ∷ (WrongLength if wrong) ∷ []))
-    [ none ↦ Sound h | some cause ↦ Refused cause ] ≡ chosen short other outside wrong h
+    [ None ↦ Ok h | Some cause ↦ Err cause ] ≡ chosen short other outside wrong h
 unfolding first_cause chosen
 picked true other outside wrong h = refl
 picked false true outside wrong h = refl
@@ -47,7 +46,7 @@ picked false false true wrong h = refl
 picked false false false true h = refl
 picked false false false false h = refl
 
-all_false : (short other outside wrong : Bool) (h found : Header) → chosen short other outside wrong h ≡ Sound found →
+all_false : (short other outside wrong : Bool) (h found : Header) → chosen short other outside wrong h ≡ Ok found →
     (short ≡ false) × (other ≡ false) × (outside ≡ false) × (wrong ≡ false) × (h ≡ found)
 unfolding chosen
 all_false false false false false h found e = (refl, refl, refl, refl, cc)
@@ -57,14 +56,14 @@ all_false false false true wrong h found e = absurd (not_sound _ _ e)
 all_false false false false true h found e = absurd (not_sound _ _ e)
 
 -- what an answer says of the first cause
-sound_none : (first : Option Refusal) (h found : Header) → elim first [ none ↦ Sound h | some cause ↦ Refused cause ] ≡ Sound found → first ≡ none
-sound_none none h found e = refl
-sound_none (some cause) h found e = absurd (not_sound cause found e)
+sound_none : (first : Option Refusal) (h found : Header) → elim first as (λ _. Result Header Refusal) [ None ↦ Ok h | Some cause ↦ Err cause ] ≡ Ok found → first ≡ None
+sound_none None h found e = refl
+sound_none (Some cause) h found e = absurd (not_sound cause found e)
 
 refused_some : (first : Option Refusal) (h : Header) (cause : Refusal) →
-    elim first [ none ↦ Sound h | some cause ↦ Refused cause ] ≡ Refused cause → first ≡ some cause
-refused_some none h cause e = absurd (not_sound cause h (sym e))
-refused_some (some other) h cause e = cc
+    elim first as (λ _. Result Header Refusal) [ None ↦ Ok h | Some cause ↦ Err cause ] ≡ Err cause → first ≡ Some cause
+refused_some None h cause e = absurd (not_sound cause h (sym e))
+refused_some (Some other) h cause e = cc
 
 module _ (job : List ℕ) where
   abbrev pub is_short : Bool
@@ -104,12 +103,12 @@ module _ (job : List ℕ) where
   unused_zero e = eqb-true _ _ (not-false _ (neither (not (header_sound header)) _ e).1)
 
   -- where every test fails, none of them holds
-  pub all_passed : is_short ≡ false → is_other ≡ false → is_outside ≡ false → is_wrong ≡ false → framing job ≡ Sound header
+  pub all_passed : is_short ≡ false → is_other ≡ false → is_outside ≡ false → is_wrong ≡ false → framing job ≡ Ok header
   unfolding chosen
   all_passed short other outside wrong = by_tests ∙ rw (short, other, outside, wrong)
 
   -- where none of them holds, the header is the job's, its numbers keep their limits and the length is theirs
-  module _ (h : Header) (e : framing job ≡ Sound h) where
+  module _ (h : Header) (e : framing job ≡ Ok h) where
     pub tests : (is_short ≡ false) × (is_other ≡ false) × (is_outside ≡ false) × (is_wrong ≡ false) × (header ≡ h)
     tests = all_false _ _ _ _ _ _ (sym by_tests ∙ e)
 
@@ -128,14 +127,14 @@ module _ (job : List ℕ) where
     framed_rest = first_later (framing_causes job) (described_causes (described job)) (sound_none _ _ h e)
 
   -- and where one holds, the first of them
-  pub unframed_first : (cause : Refusal) → framing job ≡ Refused cause → first_cause (job_causes job) ≡ some cause
+  pub unframed_first : (cause : Refusal) → framing job ≡ Err cause → first_cause (job_causes job) ≡ Some cause
   unfolding framing job_causes
   unframed_first cause e = first_earlier (framing_causes job) (described_causes (described job)) cause (refused_some _ _ cause e)
 
   -- a job without any cause has none of them
-  pub none_framed : first_cause (job_causes job) ≡ none → framing job ≡ Sound header
+  pub none_framed : first_cause (job_causes job) ≡ None → framing job ≡ Ok header
   none_framed e = go (framing job) refl
     where
-      go : (f : Framed) → framing job ≡ f → framing job ≡ Sound header
-      go (Refused cause) f = absurd (none_some cause (sym e ∙ unframed_first cause f))
-      go (Sound h) f = f ∙ ap Sound (framed_header h f)
+      go : (f : Result Header Refusal) → framing job ≡ f → framing job ≡ Ok header
+      go (Err cause) f = absurd (none_some cause (sym e ∙ unframed_first cause f))
+      go (Ok h) f = f ∙ ap Ok (framed_header h f)

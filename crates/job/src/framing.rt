@@ -10,13 +10,6 @@ use record_parts::form;
 use rules::answers::Refusal;
 use rules::job::Header;
 
-// The header of a job that may be read, or the cause for which it is refused.
-#[derive(Clone, Copy)]
-pub enum Framed {
-    Sound(Header),
-    Refused(Refusal),
-}
-
 // Cause 1.
 pub fn short_or_unmarked(job: &[u8]) -> bool
     ensures { result ≡ (ltb (length job.now) header_length || not (marked job.now)) }
@@ -49,21 +42,21 @@ pub fn wrong_length(job: &[u8], header: Header) -> bool
 }
 
 // The first of these causes that holds, or the header of the job.
-pub fn frame(job: &[u8]) -> Framed
+pub fn frame(job: &[u8]) -> Result<Header, Refusal>
     ensures { result ≡ framing job.now }
 {
     if short_or_unmarked(job) {
-        return Framed::Refused(Refusal::ShortOrUnmarked);
+        return Err(Refusal::ShortOrUnmarked);
     }
     if other_version(job) {
-        return Framed::Refused(Refusal::OtherVersion);
+        return Err(Refusal::OtherVersion);
     }
     let header = header::read_header(job);
     if header_outside(job, header) {
-        return Framed::Refused(Refusal::HeaderOutside);
+        return Err(Refusal::HeaderOutside);
     }
     if wrong_length(job, header) {
-        return Framed::Refused(Refusal::WrongLength);
+        return Err(Refusal::WrongLength);
     }
-    Framed::Sound(header)
+    Ok(header)
 }

@@ -8,7 +8,7 @@ use lib.Seq.{take-append_seam}
 use mathlib.Core.Bool.{Bool, true, false}
 use mathlib.Core.List.{List}
 use mathlib.Core.Logic.{◌⊎◌, inl, inr, ⊎_elim}
-use mathlib.Core.Option.{Option, none, some}
+use Rattle.std.specs.Prelude.{Option, None, Some}
 use mathlib.Core.Path.{◌≡◌, refl, sym, ap, subst, ◌∙◌}
 use Rattle.claims.proofs.Causes.{cause_tried}
 use Rattle.claims.proofs.Described.{described_sound}
@@ -29,7 +29,7 @@ use Rattle.rules.specs.Key.{run_to_result, key}
 use Rattle.rules.specs.Layer.{Site, State}
 use Rattle.rules.specs.Opening.{Started, started_with, not_started, opened_record, refused_opening, description_water, start_steady, started, opening}
 use Rattle.rules.specs.Outcome.{refusal_of}
-use Rattle.quantities.specs.Quantities.{within, clock_limits, budget_limits, element_limits}
+use Rattle.quantities.specs.Quantities.{clock_limits, budget_limits, element_limits}
 use Rattle.rules.specs.Record.{record_site, record_state, is_layer}
 use Rattle.rules.specs.Refusals.{first_cause, refusal_number}
 use Rattle.rules.specs.Result.{Returned, refused_result, result_bytes, result_size}
@@ -74,14 +74,14 @@ module _ (r : Record) (end budget : ℕ) (buffer : List ℕ) where
 module _ (job buffer : List ℕ) where
   by_answer : (answer : Answer) → (opening job).answer ≡ answer →
       key job buffer ≡ elim (refusal_of answer) [
-        | some cause ↦ refused_result cause buffer
-        | none ↦ run_to_result (opening job).after (described job).header.end (described job).header.budget buffer
+        | Some cause ↦ refused_result cause buffer
+        | None ↦ run_to_result (opening job).after (described job).header.end (described job).header.budget buffer
       ]
   unfolding key
   by_answer answer e =
       ap (λ (a : Answer). elim (refusal_of a) as (λ _. Returned) [
-        | some cause ↦ refused_result cause buffer
-        | none ↦ run_to_result (opening job).after (described job).header.end (described job).header.budget buffer
+        | Some cause ↦ refused_result cause buffer
+        | None ↦ run_to_result (opening job).after (described job).header.end (described job).header.budget buffer
       ]) e
 
   -- a refused job
@@ -160,13 +160,13 @@ start_numbered d cause e = found (description_water d) refl
     with_not : (water : List ℕ) → started_with water ≡ not_started cause → ⊥
     with_not water e = let z : ◌≡◌ {A = ℕ} 0 1 = cc in omega arith
 
-    steadied : (water : List ℕ) → description_water d ≡ some water → (c : Bool) → start_steady d water ≡ c → OpeningCause cause
+    steadied : (water : List ℕ) → description_water d ≡ Some water → (c : Bool) → start_steady d water ≡ c → OpeningCause cause
     steadied water p true s = absurd (with_not water (sym (steady-started d water p s) ∙ e))
     steadied water p false s = subst OpeningCause (same StartNotSteady cause (sym (unsteady_started d water p s) ∙ e)) twenty
 
     found : (o : Option (List ℕ)) → description_water d ≡ o → OpeningCause cause
-    found none p = subst OpeningCause (same StartOffCurve cause (sym (off_started d p) ∙ e)) nine
-    found (some water) p = steadied water p (start_steady d water) refl
+    found None p = subst OpeningCause (same StartOffCurve cause (sym (off_started d p) ∙ e)) nine
+    found (Some water) p = steadied water p (start_steady d water) refl
 
 pub opening_numbered : (job : List ℕ) → ((cause : Refusal) × ((opening job ≡ refused_opening cause) × OpeningCause cause)) ⊎ ((opening job).answer ≡ Done)
 unfolding opening
@@ -174,17 +174,17 @@ opening_numbered job = found (first_cause (job_causes job)) refl (started (descr
   where
     found : (first : Option Refusal) → first_cause (job_causes job) ≡ first → (start : Started) → started (described job) ≡ start →
         let a : Answered = elim first as (λ _. Answered) [
-          | some cause ↦ refused_opening cause
-          | none ↦ elim start as (λ _. Answered) [
+          | Some cause ↦ refused_opening cause
+          | None ↦ elim start as (λ _. Answered) [
             | not_started cause ↦ refused_opening cause
             | started_with water ↦ record { answer = Done; after = opened_record (described job) water }
           ]
         ] in
         ((cause : Refusal) × ((a ≡ refused_opening cause) × OpeningCause cause)) ⊎ (a.answer ≡ Done)
-    found (some cause) p start q =
+    found (Some cause) p start q =
         inl (cause, (refl, inl (cause_tried (λ c. refusal_number c ≤ 9) (job_causes job) cause (causes_numbered job) p)))
-    found none p (not_started cause) q = inl (cause, (refl, start_numbered (described job) cause q))
-    found none p (started_with water) q = inr refl
+    found None p (not_started cause) q = inl (cause, (refl, start_numbered (described job) cause q))
+    found None p (started_with water) q = inr refl
 
 run_number : (r : Record) (end budget : ℕ) (buffer : List ℕ) → (run_to_result r end budget buffer).number ≤ 10
 unfolding run_to_result refused_result refusal_number

@@ -5,7 +5,6 @@ use mathlib.Core.List.{List, [], ◌∷◌}
 use mathlib.Core.Path.{◌≡◌, refl}
 use Rattle.claims.proofs.Events.{run_accepted}
 use Rattle.claims.proofs.Stands.{Stands, site_sound, stands_layer, stands_after}
-use Rattle.lent.proofs.Standing.{state_is}
 use Rattle.pass.proofs.Reached.{fixed, kept}
 use Rattle.rules.specs.Calls.{ended_run}
 use Rattle.quantities.specs.Quantities.{clock_limits}

@@ -8,7 +8,7 @@ use lib.ListN.{length}
 use mathlib.Core.Bool.{Bool, true, false, cond}
 use mathlib.Core.List.{List}
 use mathlib.Core.Logic.{⊎_elim, inl}
-use mathlib.Core.Option.{none, some}
+use Rattle.std.specs.Prelude.{None, Some}
 use mathlib.Core.Path.{◌≡◌, refl, ap, ◌∙◌}
 use Rattle.answers.proofs.Causes.{cause_numbered}
 use Rattle.claims.proofs.Opened.{opening_either}
@@ -55,9 +55,9 @@ module _ (job readings buffer : List ℕ) where
   run = run_to_readings (opening job).after (described job).header.end (described job).header.budget readings buffer
 
   by_answer : (answer : Answer) → (opening job).answer ≡ answer →
-      job_readings job readings buffer ≡ elim (refusal_of answer) [ some cause ↦ refused_result cause buffer | none ↦ run ]
+      job_readings job readings buffer ≡ elim (refusal_of answer) [ Some cause ↦ refused_result cause buffer | None ↦ run ]
   unfolding job_readings
-  by_answer answer e = ap (λ (a : Answer). elim (refusal_of a) as (λ _. Returned) [ some cause ↦ refused_result cause buffer | none ↦ run ]) e
+  by_answer answer e = ap (λ (a : Answer). elim (refusal_of a) as (λ _. Returned) [ Some cause ↦ refused_result cause buffer | None ↦ run ]) e
 
   pub readings_run : (opening job).answer ≡ Done → job_readings job readings buffer ≡ run
   unfolding refusal_of

@@ -35,7 +35,7 @@ use Rattle.readings.specs.declared.Reading.{Reading}
 use Rattle.record_reading.proofs.ComparedLaws.{no_element, taken}
 use Rattle.record_reading.specs.Comparison.{against, compared}
 use Rattle.readings.specs.Conversion.{conversion}
-use Rattle.record_reading.specs.declared.Compared.TheVariants.{Refused}
+use Rattle.std.specs.Prelude.{Err}
 use Rattle.result.proofs.ResultLaws.{result-length}
 use Rattle.rules.specs.Calls.{Ending, ended_run}
 use Rattle.rules.specs.Job.{described}
@@ -102,7 +102,7 @@ module _ (a : Record) (is : is_layer a ≡ true) (stop : Stop) (steps : ℕ) (be
   compared_told element x = rw elements_told (go (within (from 1 to n) element) refl)
     where
       go : (z : Bool) → within (from 1 to n) element ≡ z →
-          cond z (against (pore_in bytes (element - 1)) (conversion x)) (Refused ElementOutside) ≡ compared a element x
+          cond z (against (pore_in bytes (element - 1)) (conversion x)) (Err ElementOutside) ≡ compared a element x
       go true e =
           let (least, most) = within_parts (from 1 to n) element (passed e) in
           ap (λ (pore : ℤ). against pore (conversion x)) (pore_told (element - 1) (omega arith)) ∙ sym (taken a element x is e)

@@ -1,6 +1,6 @@
 -- Readings against the layer that a job's run leaves: what is returned and left in the buffer of answers.
 use Rattle.std.specs.Prelude.{ℕ, ◌*◌, ltb, length, true, false, List}
-use Rattle.std.proofs.Math.Option.{none, some}
+use Rattle.std.specs.Prelude.{None, Some}
 use Rattle.field_data.specs.Words.{reading_count, answers_on}
 use Rattle.numbers.specs.Arrays.{overlaid}
 use Rattle.rules.specs.Calls.{ended_run}
@@ -27,6 +27,6 @@ job_readings job readings buffer =
     let opened = opening job in
     let d = described job in
     elim (refusal_of opened.answer) [
-      | some cause ↦ refused_result cause buffer
-      | none ↦ run_to_readings opened.after d.header.end d.header.budget readings buffer
+      | Some cause ↦ refused_result cause buffer
+      | None ↦ run_to_readings opened.after d.header.end d.header.budget readings buffer
     ]

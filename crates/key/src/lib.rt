@@ -12,7 +12,6 @@ ghost use Rattle.rules.specs.Record.{soil_of, layer_of, record_of, is_layer};
 ghost use Rattle.rules.specs.declared.record.Record.{Record};
 
 use acceptance::record;
-use opening::Opened;
 use rules::answers::Refusal;
 use rules::job::Header;
 use rules::record::{Frame, Progress};
@@ -109,11 +108,11 @@ pub fn consolidation_key(job: &[u8], res: &mut [u8]) -> u32
         &mut burden,
     );
     match opened {
-        Opened::Refused(cause) => result::refused(cause),
-        Opened::Accepted(header, frame, progress) => run_to_result(
-            header,
-            frame,
-            progress,
+        Err(cause) => result::refused(cause),
+        Ok(opened) => run_to_result(
+            opened.header,
+            opened.frame,
+            opened.progress,
             &void,
             &stress,
             &conductivity_void,

@@ -9,7 +9,7 @@ use Rattle.laws.specs.Segment.{OneWay, OnSegment, OnSomeSegment}
 use Rattle.numbers.proofs.Quotients.{floored}
 use Rattle.numbers.proofs.Signed.{signed, sub_parts}
 use Rattle.numbers.specs.Interpolation.{distance, share}
-use Rattle.quantities.specs.declared.CurveValue.TheVariants.{On}
+use Rattle.std.specs.Prelude.{Some}
 use Rattle.rules.proofs.Falling.{on_segment}
 use Rattle.rules.specs.Curve.{Point, interpolated, interpolation_remainder, curve_at, is_on, value_of}
 
@@ -26,12 +26,12 @@ segment_divides a b x apart =
     record { value = refl; divides = rw (added a.ordinate (share (b.ordinate - a.ordinate) (distance a.abscissa x) whole)) (floored part whole apart).divides }
 
 -- wherever a curve gives a value
-pub curve_divides : (curve : List Point) → OneWay curve → (x y : ℕ) → curve_at curve x ≡ On y → OnSomeSegment curve x y
+pub curve_divides : (curve : List Point) → OneWay curve → (x y : ℕ) → curve_at curve x ≡ Some y → OnSomeSegment curve x y
 unfolding OneWay curve_at is_on value_of
 curve_divides [] w x y e = absurd (subst (λ v. T (is_on v)) (sym e) tt)
 curve_divides (a ∷ []) w x y e = absurd (subst (λ v. T (is_on v)) (sym e) tt)
 curve_divides (a ∷ b ∷ rest) w x y e =
-    on_segment a b rest x (λ v. v ≡ On y → OnSomeSegment (a ∷ b ∷ rest) x y)
+    on_segment a b rest x (λ v. v ≡ Some y → OnSomeSegment (a ∷ b ∷ rest) x y)
     (λ _ on. rw (← ap value_of on)
     (record { segment = 0; among = omega arith; on = segment_divides a b x w.0.apart }))
     (λ _ on. later (curve_divides (b ∷ rest) w.1 x y on))

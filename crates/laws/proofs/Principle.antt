@@ -6,7 +6,7 @@ use mathlib.Core.Path.{◌≡◌, ap}
 use Rattle.numbers.specs.Rounding.{cut}
 use Rattle.numbers.proofs.Signed.{signed, add_parts, sub_parts, up_neg, down_neg, mul-up, mul-down}
 use Rattle.rules.specs.Curve.{is_on, value_of}
-use Rattle.quantities.specs.declared.CurveValue.{CurveValue}
+use Rattle.quantities.specs.Quantities.{CurveValue}
 use Rattle.laws.proofs.Amid.{Amid, upward, downward, shifted, middle, Convex}
 use Rattle.laws.proofs.Reading.{BoundedFall}
 use Rattle.laws.proofs.Flow.{flow_amid, flow_reversed}

@@ -6,7 +6,8 @@ use mathlib.Core.Bool.{Bool, ◌&&◌}
 use mathlib.Core.List.{List, [], ◌∷◌}
 use Rattle.numbers.specs.Lists.{all, last_or}
 use Rattle.numbers.proofs.Searches.{both}
-use Rattle.quantities.specs.Quantities.{Limits, within, void_limits, stress_limits, conductivity_limits}
+use Rattle.quantities.specs.Quantities.{within, void_limits, stress_limits, conductivity_limits}
+use Rattle.quantities.specs.declared.quantity.Limits.{Limits}
 use Rattle.rules.specs.Curve.{Point, curve_at, is_on, value_of, falling, compressibility_sound, rising, covers, conductivity_sound}
 use Rattle.quantities.proofs.Limits.{within_parts}
 use Rattle.laws.specs.Segment.{OneWay}

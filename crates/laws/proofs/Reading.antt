@@ -6,7 +6,7 @@ use lib.Dec.{T}
 use mathlib.Core.List.{List}
 use Rattle.rules.specs.Curve.{Point, curve_at, is_on, value_of, falling, curve_steepness}
 use Rattle.rules.specs.Layer.{skeleton_of, void_ratio, sensitivity, effective_stress}
-use Rattle.quantities.specs.declared.CurveValue.{CurveValue}
+use Rattle.quantities.specs.Quantities.{CurveValue}
 use Rattle.rules.proofs.Falling.{on_from_first, never_rises}
 use Rattle.rules.proofs.Resting.{void_ratio_mono}
 use Rattle.laws.proofs.Slope.{curve_slope}

@@ -11,8 +11,8 @@ use mathlib.Core.Path.{◌≡◌, refl}
 use Rattle.numbers.specs.Lists.{last_or}
 use Rattle.numbers.proofs.Searches.{both}
 use Rattle.rules.specs.Curve.{Point, curve_at, is_on, value_of, rising, falling}
-use Rattle.quantities.specs.declared.CurveValue.{CurveValue}
-use Rattle.quantities.specs.declared.CurveValue.TheVariants.{On, Off}
+use Rattle.quantities.specs.Quantities.{CurveValue}
+use Rattle.std.specs.Prelude.{None, Some}
 use Rattle.rules.proofs.Falling.{first_abscissa, first_ordinate}
 use Rattle.laws.specs.Segment.{OneWay}
 use Rattle.laws.proofs.Segment.{on_inside, between_on, one_way, spans_bounds, bounds_spans}
@@ -58,14 +58,14 @@ no_gap (a ∷ b ∷ rest) u v x w s t h k =
     (on x w two).1 (omega (arith, (on u w two).0 s, (on v w two).0 t))
 
 -- what is not on a curve is off it
-pub off_unless_on : (v : CurveValue) → (T (is_on v) → ⊥) → v ≡ Off
+pub off_unless_on : (v : CurveValue) → (T (is_on v) → ⊥) → v ≡ None
 unfolding is_on
-off_unless_on (On value) h = absurd (h tt)
-off_unless_on Off h = refl
+off_unless_on (Some value) h = absurd (h tt)
+off_unless_on None h = refl
 
 -- beside all points x is off the curve
 pub outside_off : (l : List Point) (x : ℕ) → OneWay l →
-    (x < min (first_abscissa l) (last_abscissa l)) ⊎ (max (first_abscissa l) (last_abscissa l) < x) → curve_at l x ≡ Off
+    (x < min (first_abscissa l) (last_abscissa l)) ⊎ (max (first_abscissa l) (last_abscissa l) < x) → curve_at l x ≡ None
 unfolding curve_at
 outside_off [] x w h = refl
 outside_off (a ∷ []) x w h = refl

@@ -14,7 +14,7 @@ use Rattle.numbers.specs.Lists.{neighbours, last_or}
 use Rattle.numbers.proofs.Searches.{both, joined}
 use Rattle.numbers.proofs.Shares.{interpolates}
 use Rattle.rules.specs.Curve.{Point, spans, interpolated, curve_at, is_on, value_of}
-use Rattle.quantities.specs.declared.CurveValue.TheVariants.{On, Off}
+use Rattle.std.specs.Prelude.{None, Some}
 use Rattle.rules.proofs.Falling.{on_segment}
 use Rattle.laws.specs.Segment.{Onward, OneWay}
 
@@ -108,10 +108,10 @@ below_last a (b ∷ rest) w = le_trans w.0.higher (below_last b rest w.1)
 -- ---- readings
 
 -- what a curve gives at its first point
-pub at_first : (a b : Point) (rest : List Point) → curve_at (a ∷ b ∷ rest) a.abscissa ≡ On a.ordinate
+pub at_first : (a b : Point) (rest : List Point) → curve_at (a ∷ b ∷ rest) a.abscissa ≡ Some a.ordinate
 at_first a b rest =
-    on_segment a b rest a.abscissa (λ v. v ≡ On a.ordinate)
-    (λ _. ap On (interpolated_first a b))
+    on_segment a b rest a.abscissa (λ v. v ≡ Some a.ordinate)
+    (λ _. ap Some (interpolated_first a b))
     (λ outside. absurd (T_not (spans a b a.abscissa) outside (bounds_spans a b a.abscissa (omega arith) (omega arith))))
 
 -- x and a value lie between two points
@@ -157,37 +157,37 @@ between_on a b (c ∷ rest) x w t =
 
 -- what the first segment spans the rest of the curve, where it gives anything, gives alike
 pub agree : (a b c : Point) (rest : List Point) (x : ℕ) → OneWay (a ∷ b ∷ c ∷ rest) → T (spans a b x) →
-    T (is_on (curve_at (b ∷ c ∷ rest) x)) → curve_at (b ∷ c ∷ rest) x ≡ On (interpolated a b x)
+    T (is_on (curve_at (b ∷ c ∷ rest) x)) → curve_at (b ∷ c ∷ rest) x ≡ Some (interpolated a b x)
 unfolding OneWay last_or
 agree a b c rest x w s t =
     let e : x ≡ b.abscissa = meet w.0 x s (on_inside b c rest x w.1 t).spanned in
-    rw e (at_first b c rest ∙ ap On (sym (interpolated_last a b w.0.apart w.0.higher)))
+    rw e (at_first b c rest ∙ ap Some (sym (interpolated_last a b w.0.apart w.0.higher)))
 
 -- a curve reads what any segment of it that spans x gives
 pub read_by_segment : (l : List Point) (i : ℕ) (d : Point) (x : ℕ) → OneWay l → suc i < length l →
-    T (spans (get_or l i d) (get_or l (suc i) d) x) → curve_at l x ≡ On (interpolated (get_or l i d) (get_or l (suc i) d) x)
+    T (spans (get_or l i d) (get_or l (suc i) d) x) → curve_at l x ≡ Some (interpolated (get_or l i d) (get_or l (suc i) d) x)
 unfolding OneWay is_on
 read_by_segment [] i d x w h s = absurd (omega arith)
 read_by_segment (a ∷ []) i d x w h s = absurd (omega arith)
 read_by_segment (a ∷ b ∷ rest) zero d x w h s =
-    on_segment a b rest x (λ v. v ≡ On (interpolated a b x)) (λ _. refl) (λ outside. absurd (T_not (spans a b x) outside s))
+    on_segment a b rest x (λ v. v ≡ Some (interpolated a b x)) (λ _. refl) (λ outside. absurd (T_not (spans a b x) outside s))
 read_by_segment (a ∷ b ∷ []) (suc i) d x w h s = absurd (omega arith)
 read_by_segment (a ∷ b ∷ c ∷ rest) (suc i) d x w h s =
     let ih = read_by_segment (b ∷ c ∷ rest) i d x w.1 (omega arith) s in
     let on : T (is_on (curve_at (b ∷ c ∷ rest) x)) = rw ih tt in
-    on_segment a b (c ∷ rest) x (λ v. v ≡ On (interpolated (get_or (b ∷ c ∷ rest) i d) (get_or (c ∷ rest) i d) x))
+    on_segment a b (c ∷ rest) x (λ v. v ≡ Some (interpolated (get_or (b ∷ c ∷ rest) i d) (get_or (c ∷ rest) i d) x))
     (λ s'. sym (agree a b c rest x w s' on) ∙ ih)
     (λ _. ih)
 
 -- where no segment spans x, x is off the curve
 pub read_by_none : (l : List Point) (d : Point) (x : ℕ) →
-    ((i : ℕ) → suc i < length l → T (not (spans (get_or l i d) (get_or l (suc i) d) x))) → curve_at l x ≡ Off
+    ((i : ℕ) → suc i < length l → T (not (spans (get_or l i d) (get_or l (suc i) d) x))) → curve_at l x ≡ None
 unfolding curve_at
 read_by_none [] d x h = refl
 read_by_none (a ∷ []) d x h = refl
 read_by_none (a ∷ b ∷ rest) d x h =
     let ih = read_by_none (b ∷ rest) d x (λ i k. h (suc i) (omega arith)) in
-    on_segment a b rest x (λ v. v ≡ Off) (λ s. absurd (T_not (spans a b x) (h 0 (omega arith)) s)) (λ _. ih)
+    on_segment a b rest x (λ v. v ≡ None) (λ s. absurd (T_not (spans a b x) (h 0 (omega arith)) s)) (λ _. ih)
 
 -- ---- which curves go one way
 

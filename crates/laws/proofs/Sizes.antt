@@ -14,7 +14,8 @@ use Rattle.numbers.proofs.Searches.{passed, both}
 use Rattle.numbers.proofs.Signed.{signed}
 use Rattle.quantities.proofs.Limits.{within_parts}
 use Rattle.rules.specs.Layer.{Site}
-use Rattle.quantities.specs.Quantities.{Limits, within, within_ℤ, level_limits, solids_limits, water_limits}
+use Rattle.quantities.specs.Quantities.{within, within_ℤ, level_limits, solids_limits, water_limits}
+use Rattle.quantities.specs.declared.quantity.Limits.{Limits}
 use Rattle.rules.specs.Record.{closed_at_zero, heights_sound, sizes_sound}
 
 -- a signed number that keeps limits from 0 up lies between them

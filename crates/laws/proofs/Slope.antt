@@ -11,7 +11,7 @@ use Rattle.numbers.specs.Interpolation.{distance}
 use Rattle.numbers.proofs.Division.{ceil_pos}
 use Rattle.numbers.proofs.Shares.{interpolates}
 use Rattle.rules.specs.Curve.{Point, spans, interpolated, curve_at, is_on, value_of, falling, curve_steepness}
-use Rattle.quantities.specs.declared.CurveValue.TheVariants.{On}
+use Rattle.std.specs.Prelude.{Some}
 use Rattle.rules.proofs.Falling.{Falls, on_segment, falling_parts, spans-within, within-spans, on_from_first}
 use Rattle.laws.proofs.Segment.{at_first, interpolated_last}
 
@@ -50,7 +50,7 @@ across a b f g x y value h k l m =
     rw (way, mul-add (max c g) (y - b.abscissa) (b.abscissa - x)) (omega arith)
 
 -- where anything is on a curve, its first point is
-first_on : (b : Point) (rest : List Point) (x : ℕ) → T (is_on (curve_at (b ∷ rest) x)) → curve_at (b ∷ rest) b.abscissa ≡ On b.ordinate
+first_on : (b : Point) (rest : List Point) (x : ℕ) → T (is_on (curve_at (b ∷ rest) x)) → curve_at (b ∷ rest) b.abscissa ≡ Some b.ordinate
 unfolding curve_at is_on
 first_on b [] x t = absurd t
 first_on b (c ∷ rest) x t = at_first b c rest

@@ -4,7 +4,8 @@ use lib.Dec.{T, leb, leb→le}
 use mathlib.Core.Bool.{true, ◌&&◌}
 use mathlib.Core.Path.{◌≡◌}
 use Rattle.numbers.proofs.Searches.{passed, both}
-use Rattle.quantities.specs.Quantities.{Limits, within, flag_limits, start_limits, element_limits, curve_limits, table_limits, gravity_limits}
+use Rattle.quantities.specs.Quantities.{within, flag_limits, start_limits, element_limits, curve_limits, table_limits, gravity_limits}
+use Rattle.quantities.specs.declared.quantity.Limits.{Limits}
 use Rattle.rules.specs.Job.{header_sound}
 use Rattle.rules.specs.Record.{form_sound}
 use Rattle.rules.specs.declared.job.Header.{Header}

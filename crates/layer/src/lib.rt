@@ -91,8 +91,7 @@ pub fn read_elements<'a>(
 {
     let points = counts.compressibility;
     let conductivity_points = counts.conductivity;
-    let mut j: usize = 0;
-    while j < elements {
+    for j in 0..elements {
         let one = read_element(
             load,
             burden[j],
@@ -112,6 +111,5 @@ pub fn read_elements<'a>(
         resistance[j] = one.resistance;
         stress_segment[j] = one.stress_segment;
         conductivity_segment[j] = one.conductivity_segment;
-        j += 1;
     }
 }

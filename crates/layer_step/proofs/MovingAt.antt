@@ -7,7 +7,7 @@ use lib.ListN.{length, get_or}
 use lib.Signed.{le_z, ◌≤ℤ◌}
 use mathlib.Core.Bool.{Bool, true, false}
 use mathlib.Core.List.{List, [], ◌∷◌}
-use mathlib.Core.Path.{◌≡◌, refl, sym, ap, subst, ◌∙◌}
+use mathlib.Core.Path.{◌≡◌, refl, sym, ap, ◌∙◌}
 use Rattle.element.proofs.FlowsAt.{outward_range, above_range}
 use Rattle.element.specs.Elements.{element_of, Readable, flow_above}
 use Rattle.laws.specs.Bounds.{lowest_water, highest_water}
@@ -16,10 +16,11 @@ use Rattle.laws.specs.Faces.{HeldWithin}
 use Rattle.laws.proofs.Rising.{last_abscissa}
 use Rattle.layer.proofs.StepAt.{paired-tabulate, upward-flows_in, moved_in_lem, stays_in}
 use Rattle.layer_step.specs.Moving.{flows_in, new_heights, stays_between, moved_by, moved_in, water_by, water_in, longest_by, water_longest, flows_longest}
-use Rattle.layer_step.specs.declared.Longest.{Longest}
-use Rattle.layer_step.specs.declared.Longest.TheVariants.{NoneTaken, Taken}
-use Rattle.layer_step.specs.declared.Moved.{Moved}
-use Rattle.layer_step.specs.declared.Moved.TheVariants.{Flows, Leaves}
+use Rattle.std.specs.Prelude.{None, Some, Result, Ok, Err}
+use Rattle.std.proofs.lemmas.Option.{none-some, same_Some}
+use Rattle.rules.specs.declared.answers.Stop.{Stop}
+use Rattle.layer_step.specs.declared.Flows.{Flows}
+use Rattle.layer_step.specs.declared.Taken.{Taken}
 use Rattle.numbers.specs.Arrays.{tabulate, first_places, overlaid, filled, every_index}
 use Rattle.numbers.proofs.Filled.{length-tabulate, get_or-tabulate, get_or-filled}
 use Rattle.numbers.proofs.Indices.{every_at, every_cong}
@@ -52,12 +53,12 @@ filled_as n water p q = rw (p, q) refl
 
 -- ---- what a step gives, by whether it stays between its bounds
 
-pub gives_leaves : {stays : Bool} (flows : List ℤ) → stays ≡ false → Leaves ≡ moved_by stays flows
+pub gives_leaves : {stays : Bool} (flows : List ℤ) → stays ≡ false → None ≡ moved_by stays flows
 unfolding moved_by
 gives_leaves flows e = rw e refl
 
 pub gives_flows : {stays : Bool} (flows : List ℤ) {first last : ℤ} → stays ≡ true → first ≡ first_or (pos 0) flows →
-    last ≡ last_or (pos 0) flows → Flows first last ≡ moved_by stays flows
+    last ≡ last_or (pos 0) flows → Some (record { bottom = first; top = last }) ≡ moved_by stays flows
 unfolding moved_by
 gives_flows flows e p q = rw (e, p, q) refl
 
@@ -71,20 +72,16 @@ unfolding water_by
 moves_on n water flows e = rw e refl
 
 -- and what it gave tells whether it stays
-pub leaves_off : (stays : Bool) (flows : List ℤ) → Leaves ≡ moved_by stays flows → stays ≡ false
+pub leaves_off : (stays : Bool) (flows : List ℤ) → None ≡ moved_by stays flows → stays ≡ false
 unfolding moved_by
-leaves_off true flows e = absurd (subst T (ap (λ (m : Moved). elim m as (λ _. Bool) [ Leaves ↦ true | Flows a b ↦ false ]) e) tt)
+leaves_off true flows e = absurd (none-some _ e)
 leaves_off false flows e = refl
 
-pub flows_on : (stays : Bool) (flows : List ℤ) (first last : ℤ) → Flows first last ≡ moved_by stays flows →
-    (stays ≡ true) × (first ≡ first_or (pos 0) flows) × (last ≡ last_or (pos 0) flows)
+pub flows_on : (stays : Bool) (flows : List ℤ) (moved : Flows) → Some moved ≡ moved_by stays flows →
+    (stays ≡ true) × (moved.bottom ≡ first_or (pos 0) flows) × (moved.top ≡ last_or (pos 0) flows)
 unfolding moved_by
-flows_on true flows first last e = (
-  refl,
-  ap (λ (m : Moved). elim m as (λ _. ℤ) [ Leaves ↦ pos 0 | Flows x y ↦ x ]) e,
-  ap (λ (m : Moved). elim m as (λ _. ℤ) [ Leaves ↦ pos 0 | Flows x y ↦ y ]) e,
-)
-flows_on false flows first last e = absurd (subst T (ap (λ (m : Moved). elim m as (λ _. Bool) [ Leaves ↦ false | Flows x y ↦ true ]) e) tt)
+flows_on true flows moved e = (refl, ap (λ (f : Flows). f.bottom) (same_Some _ _ e), ap (λ (f : Flows). f.top) (same_Some _ _ e))
+flows_on false flows moved e = absurd (none-some _ (sym e))
 
 -- ---- what the longest step gives
 
@@ -92,37 +89,37 @@ module _ (top bottom : Face) (n : ℕ) (low high water : List ℕ) (excess : Lis
   abbrev flowing : ℕ → List ℤ
   flowing t = flows_in top bottom t n excess resistance
 
-  abbrev Gives : (longest : ℕ) → Longest → (water' : List ℕ) (above' : List ℤ) → Type 0
+  abbrev Gives : (longest : ℕ) → Result Taken Stop → (water' : List ℕ) (above' : List ℤ) → Type 0
   Gives longest gave water' above' =
       (gave ≡ longest_by longest (moved_in n low high water (flowing longest))) ×
       (water' ≡ water_longest longest n low high water (flowing longest)) × (above' ≡ flows_longest longest n top excess resistance above)
 
-  pub none_taken : {longest : ℕ} → longest ≡ 0 → Gives longest (NoneTaken NoStep) water above
+  pub none_taken : {longest : ℕ} → longest ≡ 0 → Gives longest (Err NoStep) water above
   unfolding longest_by water_longest flows_longest
   none_taken e = rw e (refl, refl, refl)
 
   module _ {water' : List ℕ} {above' : List ℤ} where
-    off_after : (t : ℕ) → 0 < t → Leaves ≡ moved_in n low high water (flowing t) → water' ≡ water_in n low high water (flowing t) →
-        above' ≡ filled above n (flow_above top t n excess resistance) → Gives t (NoneTaken OffCurve) water' above'
+    off_after : (t : ℕ) → 0 < t → None ≡ moved_in n low high water (flowing t) → water' ≡ water_in n low high water (flowing t) →
+        above' ≡ filled above n (flow_above top t n excess resistance) → Gives t (Err OffCurve) water' above'
     unfolding longest_by water_longest flows_longest
     off_after zero some gave moved filled = absurd (omega arith)
     off_after (suc t) some gave moved filled = (ap (longest_by (suc t)) gave, moved, filled)
 
-    pub off_curve : {longest : ℕ} (t : ℕ) → longest ≡ t → 0 < t → Leaves ≡ moved_in n low high water (flowing t) →
+    pub off_curve : {longest : ℕ} (t : ℕ) → longest ≡ t → 0 < t → None ≡ moved_in n low high water (flowing t) →
         water' ≡ water_in n low high water (flowing t) → above' ≡ filled above n (flow_above top t n excess resistance) →
-        Gives longest (NoneTaken OffCurve) water' above'
+        Gives longest (Err OffCurve) water' above'
     off_curve t e some gave moved filled = rw e (off_after t some gave moved filled)
 
-    on_after : (t : ℕ) → 0 < t → {first last : ℤ} → Flows first last ≡ moved_in n low high water (flowing t) →
+    on_after : (t : ℕ) → 0 < t → {flows : Flows} → Some flows ≡ moved_in n low high water (flowing t) →
         water' ≡ water_in n low high water (flowing t) → above' ≡ filled above n (flow_above top t n excess resistance) →
-        Gives t (Taken t first last) water' above'
+        Gives t (Ok (record { seconds = t; flows = flows })) water' above'
     unfolding longest_by water_longest flows_longest
     on_after zero some gave moved filled = absurd (omega arith)
     on_after (suc t) some gave moved filled = (ap (longest_by (suc t)) gave, moved, filled)
 
-    pub is_on_curve : {longest : ℕ} (t : ℕ) → longest ≡ t → 0 < t → {first last : ℤ} → Flows first last ≡ moved_in n low high water (flowing t) →
+    pub is_on_curve : {longest : ℕ} (t : ℕ) → longest ≡ t → 0 < t → {flows : Flows} → Some flows ≡ moved_in n low high water (flowing t) →
         water' ≡ water_in n low high water (flowing t) → above' ≡ filled above n (flow_above top t n excess resistance) →
-        Gives longest (Taken t first last) water' above'
+        Gives longest (Ok (record { seconds = t; flows = flows })) water' above'
     is_on_curve t e some gave moved filled = rw e (on_after t some gave moved filled)
 
 -- what stays between bounds is not negative

@@ -4,13 +4,13 @@ use Rattle.element.specs.Elements.{elements_in, flow_above}
 use Rattle.numbers.specs.Arrays.{first_places, overlaid, filled, every_index}
 use Rattle.numbers.specs.Lists.{paired, first_or, last_or}
 use Rattle.rules.specs.Step.{upward_flows, moved, new_height}
+use Rattle.rules.specs.declared.answers.Stop.{Stop}
 use Rattle.rules.specs.declared.answers.Stop.TheVariants.{NoStep, OffCurve}
 use Rattle.quantities.specs.declared.Face.{Face}
 use Rattle.water.specs.Water.{between}
-use Rattle.layer_step.specs.declared.Longest.{Longest}
-use Rattle.layer_step.specs.declared.Longest.TheVariants.{NoneTaken, Taken}
-use Rattle.layer_step.specs.declared.Moved.{Moved}
-use Rattle.layer_step.specs.declared.Moved.TheVariants.{Flows, Leaves}
+use Rattle.std.specs.Prelude.{Option, None, Some, Result, Ok, Err}
+use Rattle.layer_step.specs.declared.Flows.{Flows}
+use Rattle.layer_step.specs.declared.Taken.{Taken}
 
 -- the upward flows of the arrays, the bottom first
 abbrev pub flows_in : (top bottom : Face) (t elements : ℕ) (excess : List ℤ) (resistance : List ℕ) → List ℤ
@@ -28,11 +28,11 @@ stays_between elements low high water flows =
     every_index elements (λ j. between (get_or low j 0) (get_or high j 0) (get_or new j (pos 0)))
 
 -- what a step gives: the first and the last flow, unless an element leaves its bounds
-unfoldable pub moved_by : (stays : Bool) (flows : List ℤ) → Moved
+unfoldable pub moved_by : (stays : Bool) (flows : List ℤ) → Option Flows
 unfolding first_or last_or
-moved_by stays flows = elim stays [ true ↦ Flows (first_or (pos 0) flows) (last_or (pos 0) flows) | false ↦ Leaves ]
+moved_by stays flows = elim stays [ true ↦ Some (record { bottom = first_or (pos 0) flows; top = last_or (pos 0) flows }) | false ↦ None ]
 
-abbrev pub moved_in : (elements : ℕ) (low high water : List ℕ) (flows : List ℤ) → Moved
+abbrev pub moved_in : (elements : ℕ) (low high water : List ℕ) (flows : List ℤ) → Option Flows
 moved_in elements low high water flows = moved_by (stays_between elements low high water flows) flows
 
 -- the water after it, as it was where an element leaves its bounds; places past the count are kept
@@ -44,10 +44,10 @@ abbrev pub water_in : (elements : ℕ) (low high water : List ℕ) (flows : List
 water_in elements low high water flows = water_by (stays_between elements low high water flows) elements water flows
 
 -- what the longest step gives: why none is taken, or its seconds with the first and the last flow
-unfoldable pub longest_by : (t : ℕ) → Moved → Longest
-longest_by zero moved = NoneTaken NoStep
-longest_by (suc t) Leaves = NoneTaken OffCurve
-longest_by (suc t) (Flows first last) = Taken (suc t) first last
+unfoldable pub longest_by : (t : ℕ) → Option Flows → Result Taken Stop
+longest_by zero moved = Err NoStep
+longest_by (suc t) None = Err OffCurve
+longest_by (suc t) (Some flows) = Ok (record { seconds = suc t; flows = flows })
 
 -- where there is one: the water after it, and the flows above the elements
 unfoldable pub water_longest : (t elements : ℕ) (low high water : List ℕ) (flows : List ℤ) → List ℕ

@@ -18,14 +18,21 @@ use quantities::Face;
 use rules::answers::Stop;
 use rules::record::Skeleton;
 
-// What a step gives: the flows up through the bottom and up through the top, or that it leaves the curve.
+// The flows of a step up through the bottom and up through the top.
 #[derive(Clone, Copy)]
-pub enum Moved {
-    Flows(i64, i64),
-    Leaves,
+pub struct Flows {
+    pub bottom: i64,
+    pub top: i64,
 }
 
-// Moves the water of every element by the flows of t seconds, unless one would leave its bounds.
+// A step taken: its seconds and its flows.
+#[derive(Clone, Copy)]
+pub struct Taken {
+    pub seconds: u64,
+    pub flows: Flows,
+}
+
+// Moves the water of every element by the flows of t seconds, unless one would leave its bounds, and gives the flows.
 pub fn advance<'a>(
     elements: usize,
     top: Face,
@@ -37,7 +44,7 @@ pub fn advance<'a>(
     high: &'a [u64; 128],
     above: &mut [i64; 128],
     water: &mut [u64; 128],
-) -> Moved
+) -> Option<Flows>
     requires elements_nonzero { (0 < elements) × (elements ≤ element_limits.most) }
     requires held_within { HeldWithin top × HeldWithin bottom }
     requires t_le_most { t ≤ step_limits.most }
@@ -50,22 +57,17 @@ pub fn advance<'a>(
 {
     let lowest = flows::all_flows(elements, top, bottom, t, excess, resistance, above);
     if !water::stays_between(elements, lowest, above, water, low, high) {
-        return Moved::Leaves;
+        return None;
     }
     water::move_water(elements, lowest, above, water);
     let last = elements - 1;
-    Moved::Flows(lowest, above[last])
+    Some(Flows {
+        bottom: lowest,
+        top: above[last],
+    })
 }
 
-// What the longest step gives: the stop where none is taken, or its seconds with the flows up through the bottom and up through the
-// top.
-#[derive(Clone, Copy)]
-pub enum Longest {
-    NoneTaken(Stop),
-    Taken(u64, i64, i64),
-}
-
-// Takes the longest step of at most so many seconds that is not too long.
+// Takes the longest step of at most so many seconds that is not too long, or gives the stop where none is taken.
 pub fn advance_longest<'a>(
     elements: usize,
     top: Face,
@@ -79,7 +81,7 @@ pub fn advance_longest<'a>(
     high: &'a [u64; 128],
     above: &mut [i64; 128],
     water: &mut [u64; 128],
-) -> Longest
+) -> Result<Taken, Stop>
     requires elements_nonzero { (0 < elements) × (elements ≤ element_limits.most) }
     requires held_within { HeldWithin top × HeldWithin bottom × (most ≤ step_limits.most) }
     requires steepness_nonzero { (0 < steepness) × (steepness ≤ stress_limits.most) × Limited elements resistance.now sensitivity.now }
@@ -100,13 +102,13 @@ pub fn advance_longest<'a>(
         most,
     );
     if t == 0 {
-        return Longest::NoneTaken(Stop::NoStep);
+        return Err(Stop::NoStep);
     }
     match advance(
         elements, top, bottom, t, excess, resistance, low, high, above, water,
     ) {
-        Moved::Leaves => Longest::NoneTaken(Stop::OffCurve),
-        Moved::Flows(first, last) => Longest::Taken(t, first, last),
+        None => Err(Stop::OffCurve),
+        Some(flows) => Ok(Taken { seconds: t, flows }),
     }
 }
 

@@ -6,7 +6,7 @@ ghost use Rattle.std.specs.Prelude.{true, ◌&&◌, ◌≡◌};
 ghost use Rattle.quantities.specs.Quantities.{within, within_ℤ, stress_limits, clock_limits, starting_water_limits, outflow_within};
 ghost use Rattle.rules.specs.Record.{site_sound, state_sound, is_layer};
 
-use quantities::{Clock, StartingWater, TestedClock};
+use quantities::{Clock, Quantity, StartingWater};
 use record_parts::balance;
 use rules::record::{Progress, Record, Skeleton};
 
@@ -21,7 +21,7 @@ pub fn progress_sound(progress: Progress, starting: u64) -> bool
     if !load.is_stress() {
         return false;
     }
-    let TestedClock::Within(now) = Clock::new(clock.0) else {
+    let Some(now) = Clock::new(clock.0) else {
         return false;
     };
     StartingWater::within(starting) & top.within(now) & bottom.within(now)

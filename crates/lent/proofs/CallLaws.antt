@@ -4,7 +4,7 @@ use lib.IntN.{pos}
 use lib.ListN.{length}
 use mathlib.Core.Bool.{Bool, true, false, not}
 use mathlib.Core.List.{List, [], ◌∷◌}
-use mathlib.Core.Option.{Option, none, some}
+use Rattle.std.specs.Prelude.{Option, None, Some}
 use mathlib.Core.Path.{◌≡◌, refl, sym, ap, ◌∙◌}
 use Rattle.numbers.specs.Arrays.{first_places, overlaid}
 use Rattle.numbers.proofs.Filled.{tabulate-get_or, overlaid-take}
@@ -68,19 +68,19 @@ refused_on_layer r call cause e p = on_layer r call (refused cause) e p
 
 -- the outcome by the refusal
 pub by_refusal : (site : Site) (s : State) (load : ℕ) (cause : Option Refusal) → load_refusal load ≡ cause →
-    outcome site s (Load load) ≡ elim cause [ some cause ↦ refused cause | none ↦ record { answer = Done; events = load_set (pos load) ∷ [] } ]
+    outcome site s (Load load) ≡ elim cause [ Some cause ↦ refused cause | None ↦ record { answer = Done; events = load_set (pos load) ∷ [] } ]
 unfolding outcome
 by_refusal site s load cause e =
-    ap (λ (c : Option Refusal). elim c as (λ _. Outcome) [ some x ↦ refused x | none ↦ record { answer = Done; events = load_set (pos load) ∷ [] } ]) e
+    ap (λ (c : Option Refusal). elim c as (λ _. Outcome) [ Some x ↦ refused x | None ↦ record { answer = Done; events = load_set (pos load) ∷ [] } ]) e
 
 module _ (site : Site) (s : State) (load : ℕ) where
   pub load_outside : within stress_limits load ≡ false → outcome site s (Load load) ≡ refused LoadOutside
   unfolding load_refusal first_cause
-  load_outside e = by_refusal site s load (some LoadOutside) (ap (λ (b : Bool). first_cause ((LoadOutside if not b) ∷ [])) e)
+  load_outside e = by_refusal site s load (Some LoadOutside) (ap (λ (b : Bool). first_cause ((LoadOutside if not b) ∷ [])) e)
 
   pub load_set_lem : within stress_limits load ≡ true → outcome site s (Load load) ≡ record { answer = Done; events = load_set (pos load) ∷ [] }
   unfolding load_refusal first_cause
-  load_set_lem e = by_refusal site s load none (ap (λ (b : Bool). first_cause ((LoadOutside if not b) ∷ [])) e)
+  load_set_lem e = by_refusal site s load None (ap (λ (b : Bool). first_cause ((LoadOutside if not b) ∷ [])) e)
 
 -- an array with its own first places is the array
 pub own_front : (n : ℕ) (array : List ℕ) → n ≤ length array → array ≡ overlaid (first_places n array) array

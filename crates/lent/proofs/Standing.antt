@@ -23,7 +23,6 @@ use Rattle.numbers.proofs.Filled.{get_or-filled, first_length}
 use Rattle.numbers.proofs.Indices.{every_at}
 use Rattle.numbers.proofs.Searches.{passed, both, is_true}
 use Rattle.rules.specs.Curve.{Point, is_on}
-use Rattle.rules.specs.Layer as layer
 use Rattle.rules.specs.Layer.{Skeleton, skeleton_of, effective_stress, burdens}
 use Rattle.quantities.specs.Quantities.{solids_limits, gravity_limits, element_limits}
 use Rattle.rules.specs.Record.{compressibility_points, record_site, record_state, site_sound, state_sound, is_layer}

@@ -5,7 +5,7 @@ use lib.IntN.{ℤ, pos}
 use lib.ListN.{get_or}
 use mathlib.Core.Bool.{Bool, true, false, not, ◌||◌}
 use mathlib.Core.List.{List, [], ◌∷◌}
-use mathlib.Core.Option.{Option, none, some}
+use Rattle.std.specs.Prelude.{Option, None, Some}
 use native.Mathlib.Omega.{arith}
 use mathlib.Core.Path.{◌≡◌, refl, sym, ap, subst, ◌∙◌}
 use Rattle.lent.proofs.CallLaws.{on_layer, refused_on_layer}
@@ -41,10 +41,10 @@ use Rattle.rules.specs.declared.record.Record.{Record}
 
 module _ (site : Site) (s : State) (t : ℕ) where
   pub by_refusal : (cause : Option Refusal) → step_refusal site s t ≡ cause →
-      outcome site s (Step t) ≡ elim cause [ some cause ↦ refused cause | none ↦ record { answer = Done; events = step_taken t ∷ [] } ]
+      outcome site s (Step t) ≡ elim cause [ Some cause ↦ refused cause | None ↦ record { answer = Done; events = step_taken t ∷ [] } ]
   unfolding outcome
   by_refusal cause e =
-      ap (λ (c : Option Refusal). elim c as (λ _. Outcome) [ some x ↦ refused x | none ↦ record { answer = Done; events = step_taken t ∷ [] } ]) e
+      ap (λ (c : Option Refusal). elim c as (λ _. Outcome) [ Some x ↦ refused x | None ↦ record { answer = Done; events = step_taken t ∷ [] } ]) e
 
   -- the refusal by the tests of its causes
   by_tests : {a b c d : Bool} → within step_limits t ≡ a → within clock_limits (s.clock + t) ≡ b → too_long site s t ≡ c → leaves_curve site s t ≡ d →
@@ -54,25 +54,25 @@ module _ (site : Site) (s : State) (t : ℕ) where
 
   pub step_length_outside : within step_limits t ≡ false → outcome site s (Step t) ≡ refused StepOutside
   unfolding first_cause
-  step_length_outside p = by_refusal (some StepOutside) (by_tests p refl refl refl)
+  step_length_outside p = by_refusal (Some StepOutside) (by_tests p refl refl refl)
 
   pub clock_outside : within step_limits t ≡ true → within clock_limits (s.clock + t) ≡ false → outcome site s (Step t) ≡ refused StepOutside
   unfolding first_cause
-  clock_outside p q = by_refusal (some StepOutside) (by_tests p q refl refl)
+  clock_outside p q = by_refusal (Some StepOutside) (by_tests p q refl refl)
 
   module _ (p : within step_limits t ≡ true) (q : within clock_limits (s.clock + t) ≡ true) where
     pub step_too_long : too_long site s t ≡ true → outcome site s (Step t) ≡ refused StepTooLong
     unfolding first_cause
-    step_too_long u = by_refusal (some StepTooLong) (by_tests p q u refl)
+    step_too_long u = by_refusal (Some StepTooLong) (by_tests p q u refl)
 
     pub step_off_curve : too_long site s t ≡ false → leaves_curve site s t ≡ true → outcome site s (Step t) ≡ refused StepOffCurve
     unfolding first_cause
-    step_off_curve u v = by_refusal (some StepOffCurve) (by_tests p q u v)
+    step_off_curve u v = by_refusal (Some StepOffCurve) (by_tests p q u v)
 
     pub step_taken_lem : too_long site s t ≡ false → leaves_curve site s t ≡ false →
         outcome site s (Step t) ≡ record { answer = Done; events = step_taken t ∷ [] }
     unfolding first_cause
-    step_taken_lem u v = by_refusal none (by_tests p q u v)
+    step_taken_lem u v = by_refusal None (by_tests p q u v)
 
 -- a step that is refused leaves the record
 pub step_refused : (r : Record) (t : ℕ) (cause : Refusal) → is_layer r ≡ true → (called r (Step t)).answer ≡ Refused cause →
@@ -81,12 +81,12 @@ unfolding refused
 step_refused r t cause is e = go (step_refusal (record_site r) (record_state r) t) refl
   where
     go : (found : Option Refusal) → step_refusal (record_site r) (record_state r) t ≡ found → refused_with cause r ≡ called r (Step t)
-    go (some other) p =
-        let answers = refused_on_layer r (Step t) other is (by_refusal (record_site r) (record_state r) t (some other) p) in
+    go (Some other) p =
+        let answers = refused_on_layer r (Step t) other is (by_refusal (record_site r) (record_state r) t (Some other) p) in
         let same : other ≡ cause = cc (sym (ap (λ (a : Answered). a.answer) answers) ∙ e) in
         sym (answers ∙ ap (λ (c : Refusal). refused_with c r) same)
-    go none p =
-        let answers = on_layer r (Step t) _ is (by_refusal (record_site r) (record_state r) t none p) in
+    go None p =
+        let answers = on_layer r (Step t) _ is (by_refusal (record_site r) (record_state r) t None p) in
         let done : Done ≡ Refused cause = sym (ap (λ (a : Answered). a.answer) answers) ∙ e in
         absurd (let z : ◌≡◌ {A = ℕ} 0 1 = cc in omega arith)
 

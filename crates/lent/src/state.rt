@@ -5,6 +5,7 @@ ghost use Rattle.std.proofs.Common.{SFits};
 ghost use Rattle.lent.specs.Progress.{loaded, later, refused_with};
 ghost use Rattle.rules.specs.Record.{with_parts};
 
+use layer_step::Flows;
 use quantities::{Clock, Outflow, Pressure};
 use rules::answers::{Answer, Answered, Refusal};
 use rules::record::{Progress, Record};
@@ -35,11 +36,11 @@ pub fn loaded(progress: Progress, load: Pressure) -> Progress
     }
 }
 
-// The progress after a step of t seconds with these flows up through the bottom and up through the top.
-pub fn later(progress: Progress, t: u64, first: i64, last: i64) -> Progress
+// The progress after a step of t seconds with these flows.
+pub fn later(progress: Progress, t: u64, flows: Flows) -> Progress
     requires t_bound { progress.clock.0 + t < 2 ^ 64 }
-    requires sfits { SFits w64 (progress.top_outflow.0 +ℤ last) × SFits w64 (progress.bottom_outflow.0 -ℤ first) }
-    ensures { result ≡ later progress t first last }
+    requires sfits { SFits w64 (progress.top_outflow.0 +ℤ flows.top) × SFits w64 (progress.bottom_outflow.0 -ℤ flows.bottom) }
+    ensures { result ≡ later progress t flows.bottom flows.top }
 {
     let load = progress.load;
     let clock = progress.clock;
@@ -48,8 +49,8 @@ pub fn later(progress: Progress, t: u64, first: i64, last: i64) -> Progress
     Progress {
         load,
         clock: Clock(clock.0 + t),
-        top_outflow: Outflow(top.0 + last),
-        bottom_outflow: Outflow(bottom.0 - first),
+        top_outflow: Outflow(top.0 + flows.top),
+        bottom_outflow: Outflow(bottom.0 - flows.bottom),
     }
 }
 

@@ -11,21 +11,14 @@ ghost use Rattle.rules.specs.declared.record.Record.{Record};
 ghost use Rattle.lent_step.specs.Answers.{step_answered};
 ghost use Rattle.lent_step.specs.Read.{ReadAs, SomeRead};
 
-use layer_step::Moved;
 use lent::state;
 use rules::answers::Refusal;
 use rules::record::{CurveCounts, Frame, Progress, Skeleton};
 
 pub mod reading;
 
-// What a step answers: the layer's progress after it, or a refusal.
-#[derive(Clone, Copy)]
-pub enum Stepped {
-    Done(Progress),
-    Refused(Refusal),
-}
-
-// A step within its limits, on a layer that is set up and read; the water is left as the step leaves it.
+// A step within its limits, on a layer that is set up and read: the layer's progress after it, or a refusal. The water is left as the
+// step leaves it.
 pub fn step_read<'a>(
     frame: Frame,
     progress: Progress,
@@ -37,7 +30,7 @@ pub fn step_read<'a>(
     resistance: &'a [u64; 128],
     water: &mut [u64; 128],
     t: u64,
-) -> Stepped
+) -> Result<Progress, Refusal>
     requires some_read { SomeRead frame progress steepness sensitivity.now low.now high.now excess.now resistance.now water.old }
     requires t_value { (within step_limits t ≡ true) × (within clock_limits (progress.clock.0 + t) ≡ true) }
     requires water_len { length water.old ≡ 128 }
@@ -47,15 +40,15 @@ pub fn step_read<'a>(
     let top = frame.top;
     let bottom = frame.bottom;
     if step_length::too_long(elements, top, bottom, steepness, resistance, sensitivity, t) {
-        return Stepped::Refused(Refusal::StepTooLong);
+        return Err(Refusal::StepTooLong);
     }
     let mut above = [0i64; 128];
     let moved = layer_step::advance(
         elements, top, bottom, t, excess, resistance, low, high, &mut above, water,
     );
     match moved {
-        Moved::Leaves => Stepped::Refused(Refusal::StepOffCurve),
-        Moved::Flows(first, last) => Stepped::Done(state::later(progress, t, first, last)),
+        None => Err(Refusal::StepOffCurve),
+        Some(flows) => Ok(state::later(progress, t, flows)),
     }
 }
 
@@ -73,7 +66,7 @@ pub fn step_lent<'a>(
     table_time: &'a [u64; 64],
     table_load: &'a [u64; 64],
     t: u64,
-) -> Stepped
+) -> Result<Progress, Refusal>
     requires r_value { let r : Record = record_of (soil_of counts void.now stress.now conductivity_void.now conductivity.now) (layer_of frame progress solids.now water.old table_time.now table_load.now) in is_layer r ≡ true }
     requires t_value { (within step_limits t ≡ true) × (within clock_limits (progress.clock.0 + t) ≡ true) }
     requires water_len { length water.old ≡ 128 }

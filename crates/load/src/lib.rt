@@ -8,7 +8,7 @@ ghost use Rattle.rules.specs.Outcome.{answer_numbers};
 ghost use Rattle.rules.specs.declared.answers.Call.TheVariants.{Load};
 
 use lent::state;
-use quantities::{Pressure, TestedPressure};
+use quantities::Pressure;
 use rules::answers::{Answer, Answered, Refusal};
 use rules::record::Record;
 
@@ -24,8 +24,8 @@ pub fn set_load(r: Record, load: u64) -> Answered
     let water = layer.water;
     let progress = layer.progress;
     match Pressure::new(load) {
-        TestedPressure::Outside => state::refused(r, Refusal::LoadOutside),
-        TestedPressure::Within(pressure) => Answered {
+        None => state::refused(r, Refusal::LoadOutside),
+        Some(pressure) => Answered {
             answer: Answer::Done,
             after: state::with_parts(r, water, state::loaded(progress, pressure)),
         },

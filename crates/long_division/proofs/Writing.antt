@@ -3,7 +3,7 @@ use Prim.Native.Nat.{ℕ, ◌*◌, ◌≤◌}
 use lib.ListN.{length, take, length-append}
 use lib.Seq.{take_at}
 use mathlib.Core.List.{List, ◌++◌}
-use mathlib.Core.Option.{Option, none, some}
+use Rattle.std.specs.Prelude.{Option, None, Some}
 use mathlib.Core.Path.{◌≡◌, refl, sym, ap, ◌∙◌}
 use native.Mathlib.Omega.{arith}
 use Rattle.division.specs.JobFlows.{job_run}
@@ -22,8 +22,7 @@ use Rattle.rules.specs.declared.record.Record.{Record}
 use Rattle.words.proofs.WordBytes.{length-bytes_of}
 use Rattle.words.specs.Words.{bytes_of}
 use Rattle.working.specs.Working.{Working, working_words, working}
-use Rattle.working.specs.declared.Worked.{Worked}
-use Rattle.working.specs.declared.Worked.TheVariants as worked
+use Rattle.std.specs.Prelude.{Result, Ok, Err}
 
 -- what is no longer than a front is no longer than the array
 pub front : (n : ℕ) (lent rest : List ℕ) → n ≤ length lent → n ≤ length (lent ++ rest)
@@ -40,53 +39,53 @@ module _ (r : Record) (t : ℕ) (out : List ℕ) where
 
   abbrev working_by : Option Refusal → Working
   working_by o = elim o [
-    | some cause ↦ record { answer = worked.Refused cause; words = out }
-    | none ↦ record { answer = worked.Words (length (working_words r t)); words = overlaid (working_words r t) out }
+    | Some cause ↦ record { answer = Err cause; words = out }
+    | None ↦ record { answer = Ok (length (working_words r t)); words = overlaid (working_words r t) out }
   ]
 
   abbrev output_by : Option Refusal → List ℕ
-  output_by o = elim o [ some cause ↦ refused_line (refusal_number cause) | none ↦ bytes_of (working_words r t) ]
+  output_by o = elim o [ Some cause ↦ refused_line (refusal_number cause) | None ↦ bytes_of (working_words r t) ]
 
   working_is : (o : Option Refusal) → cause? ≡ o → (working r t out ≡ working_by o) × (worked_output r t ≡ output_by o)
   unfolding working worked_output
   working_is o e = (ap working_by e, ap output_by e)
 
   -- how many words an answer tells, and which cause
-  abbrev told : Worked → ℕ
-  told (worked.Words n) = n
-  told (worked.Refused cause) = 0
+  abbrev told : Result ℕ Refusal → ℕ
+  told (Ok n) = n
+  told (Err cause) = 0
 
-  abbrev kind : Worked → ℕ
-  kind (worked.Words n) = 0
-  kind (worked.Refused cause) = 1
+  abbrev kind : Result ℕ Refusal → ℕ
+  kind (Ok n) = 0
+  kind (Err cause) = 1
 
-  abbrev number : Worked → ℕ
-  number (worked.Words n) = 0
-  number (worked.Refused cause) = refusal_number cause
+  abbrev number : Result ℕ Refusal → ℕ
+  number (Ok n) = 0
+  number (Err cause) = refusal_number cause
 
-  pub words_told : {n : ℕ} {last : List ℕ} → worked.Words n ≡ (working r t out).answer → last ≡ (working r t out).words →
+  pub words_told : {n : ℕ} {last : List ℕ} → Ok n ≡ (working r t out).answer → last ≡ (working r t out).words →
       Written (working_words r t) out last n × (worked_output r t ≡ bytes_of (working_words r t))
   words_told {n} {last} is last-is = go cause? refl
     where
       go : (o : Option Refusal) → cause? ≡ o → Written (working_words r t) out last n × (worked_output r t ≡ bytes_of (working_words r t))
-      go none e =
-          let (w, output) = working_is none e in
+      go None e =
+          let (w, output) = working_is None e in
           ((last-is ∙ ap (λ (x : Working). x.words) w, ap told (is ∙ ap (λ (x : Working). x.answer) w)), output)
-      go (some cause) e =
-          let (w, output) = working_is (some cause) e in
+      go (Some cause) e =
+          let (w, output) = working_is (Some cause) e in
           let differ : ◌≡◌ {A = ℕ} 0 1 = ap kind (is ∙ ap (λ (x : Working). x.answer) w) in
           absurd (omega arith)
 
-  pub refusal_told : (cause : Refusal) → worked.Refused cause ≡ (working r t out).answer → worked_output r t ≡ refused_line (refusal_number cause)
+  pub refusal_told : (cause : Refusal) → Err cause ≡ (working r t out).answer → worked_output r t ≡ refused_line (refusal_number cause)
   refusal_told cause is = go cause? refl
     where
       go : (o : Option Refusal) → cause? ≡ o → worked_output r t ≡ refused_line (refusal_number cause)
-      go none e =
-          let (w, output) = working_is none e in
+      go None e =
+          let (w, output) = working_is None e in
           let differ : ◌≡◌ {A = ℕ} 1 0 = ap kind (is ∙ ap (λ (x : Working). x.answer) w) in
           absurd (omega arith)
-      go (some other) e =
-          let (w, output) = working_is (some other) e in
+      go (Some other) e =
+          let (w, output) = working_is (Some other) e in
           let same : refusal_number cause ≡ refusal_number other = ap number (is ∙ ap (λ (x : Working). x.answer) w) in
           output ∙ ap refused_line (sym same)
 
@@ -105,7 +104,7 @@ line_written line other out last size e told = rw e told
 
 module _ (job : List ℕ) (t : ℕ) where
   abbrev by : Answer → List ℕ
-  by answer = elim (refusal_of answer) [ some cause ↦ refused_line (refusal_number cause) | none ↦ worked_output (job_run job (opening job).after) t ]
+  by answer = elim (refusal_of answer) [ Some cause ↦ refused_line (refusal_number cause) | None ↦ worked_output (job_run job (opening job).after) t ]
 
   pub opened_output : (opening job).answer ≡ Done → division_output job t ≡ worked_output (job_run job (opening job).after) t
   unfolding division_output refusal_of

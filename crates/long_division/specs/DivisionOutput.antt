@@ -1,6 +1,6 @@
 -- The fifth program: what it writes for what it reads.
 use Rattle.std.specs.Prelude.{ℕ, List}
-use Rattle.std.proofs.Math.Option.{none, some}
+use Rattle.std.specs.Prelude.{None, Some}
 use Rattle.division.specs.JobFlows.{job_run}
 use Rattle.rules.specs.Calls.{called}
 use Rattle.rules.specs.Opening.{opening}
@@ -21,8 +21,8 @@ unfoldable pub worked_output : Record → (t : ℕ) → List ℕ
 unfolding called refusal_of refused_line refusal_number bytes_of working_words
 worked_output r t =
     elim (refusal_of (called r (Step t)).answer) [
-      | some cause ↦ refused_line (refusal_number cause)
-      | none ↦ bytes_of (working_words r t)
+      | Some cause ↦ refused_line (refusal_number cause)
+      | None ↦ bytes_of (working_words r t)
     ]
 
 -- the same on the layer that a job's run leaves
@@ -30,6 +30,6 @@ unfoldable pub division_output : (job : List ℕ) (t : ℕ) → List ℕ
 unfolding opening refusal_of refused_line refusal_number job_run worked_output
 division_output job t =
     elim (refusal_of (opening job).answer) [
-      | some cause ↦ refused_line (refusal_number cause)
-      | none ↦ worked_output (job_run job (opening job).after) t
+      | Some cause ↦ refused_line (refusal_number cause)
+      | None ↦ worked_output (job_run job (opening job).after) t
     ]

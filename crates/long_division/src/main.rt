@@ -3,33 +3,21 @@
 
 #![tactic(auto)]
 
-ghost use Rattle.std.specs.Prelude.{length, ◌≡◌, ◌≤◌, min};
+ghost use Rattle.std.specs.Prelude.{length, ◌≡◌, ◌≤◌};
 ghost use Rattle.long_division.specs.DivisionOutput.{working_most, worked_output, division_output};
 ghost use Rattle.numbers.specs.Arrays.{overlaid};
-ghost use Rattle.numbers.specs.Bytes.{field};
-ghost use Rattle.rules.specs.Program.{input_most, refused_line};
+ghost use Rattle.rules.specs.Program.{refused_line};
 ghost use Rattle.rules.specs.Refusals.{refusal_number};
 
 use rules::answers::{Answer, Refusal};
 use rules::record::Record;
 use std::io;
 use words::bytes;
-use working::Worked;
-
-// The most bytes of a job that are read.
-const JOB_MOST: usize = 8_192;
 
 // The words of the longest working, and their bytes.
 const WORDS: usize = 1_670;
 
 const ROOM: usize = 13_360;
-
-// How many bytes of a job are to be read: the number in a head, at most the most.
-fn job_length(head: &[u8]) -> usize
-    ensures { result ≡ min (field 8 0 head.now) input_most }
-{
-    numbers::lesser(bytes::word_at(head, 0), JOB_MOST as u64) as usize
-}
 
 // Stores the line of a refusal at the start of a buffer, and gives its length.
 fn refuse(cause: Refusal, out: &mut [u8]) -> usize
@@ -47,11 +35,11 @@ fn answer_record(r: Record, t: u64, out: &mut [u8]) -> usize
     let mut words = [0u64; WORDS];
     let worked = working::work_out(r, t, &mut words);
     match worked {
-        Worked::Words(count) => {
+        Ok(count) => {
             bytes::put_words(&words[..count], out);
             8 * count
         }
-        Worked::Refused(cause) => refuse(cause, out),
+        Err(cause) => refuse(cause, out),
     }
 }
 
@@ -74,8 +62,8 @@ fn main(rt: HostRuntime) -> io::Result<()> {
     let mut input = rt.stdin();
     let mut head = [0u8; 8];
     streams::read_full(&mut input, &mut head)?;
-    let length = job_length(&head);
-    let mut job = [0u8; JOB_MOST];
+    let length = bytes::job_length(&head);
+    let mut job = [0u8; bytes::JOB_MOST];
     let job_read = streams::read_full(&mut input, &mut job[..length])?;
     let mut seconds = [0u8; 8];
     streams::read_full(&mut input, &mut seconds)?;

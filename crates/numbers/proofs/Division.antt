@@ -46,6 +46,11 @@ module _ {b : ℕ} (h : 0 < b) where
   unfolding ceil
   ceil_below a = omega (arith, div-mul-le_self (a + (b - 1)) b)
 
+  -- what reaches the dividend, and passes it by less than the divisor, is the ceil
+  pub ceil_is : (a q : ℕ) → (a ≤ q * b) × (q * b < a + b) → q ≡ ceil a b
+  unfolding ceil
+  ceil_is a q k = omega (arith, (ceil_le a q).1 k.0, (le_floor q (a + (b - 1))).1 (omega arith))
+
   -- the ceil is monotone in the dividend
   pub ceil_mono : (a c : ℕ) → a ≤ c → ceil a b ≤ ceil c b
   ceil_mono a c k = (ceil_le a (ceil c b)).1 (le_trans k (ceil_reaches c))

@@ -16,4 +16,5 @@ pub mod LittleEndian
 pub mod Appended
 -- lists by index, and arrays
 pub mod Indices
+pub mod Failures
 pub mod Filled

@@ -94,12 +94,10 @@ pub fn divide_faces<'a>(
     ensures remainders_after { remainders.new ≡ filled remainders.old (face_count elements top bottom) (λ k. remainder_at t (face_in elements top bottom excess.now resistance.now k)) }
 {
     let count = face_count(elements, top, bottom);
-    let mut k: usize = 0;
-    while k < count {
+    for k in 0..count {
         let face = face_at(elements, top, bottom, excess, resistance, k);
         flows[k] = element::flow(face.difference, t, face.resistance);
         remainders[k] = element::flow_remainder(face.difference, t, face.resistance);
-        k += 1;
     }
     count
 }

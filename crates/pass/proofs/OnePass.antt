@@ -15,7 +15,8 @@ use Rattle.claims.proofs.TableLoads.{sound_load}
 use Rattle.laws.proofs.Longest.{longest-accepted}
 use Rattle.lent.specs.Progress as progress
 use Rattle.lent.proofs.Standing.{counted}
-use Rattle.layer_step.specs.declared.Longest.TheVariants.{NoneTaken, Taken}
+use Rattle.layer_step.specs.declared.Taken.{Taken}
+use Rattle.std.specs.Prelude.{Ok, Err}
 use Rattle.numbers.specs.Arrays.{first_places, overlaid, filled}
 use Rattle.numbers.proofs.Filled.{length-overlaid, length-filled, overlaid-overlaid, first_length}
 use Rattle.numbers.specs.Lists.{first_or, last_or}
@@ -35,7 +36,7 @@ use Rattle.rules.specs.declared.record.Progress.{Progress}
 use Rattle.rules.specs.declared.record.Record.{Record}
 use Rattle.pass.specs.Passing as passing
 use Rattle.pass.specs.Passing.{under_table, passed_by, turned, flows_turned}
-use Rattle.pass.specs.declared.Passed.TheVariants.{Stops, Goes}
+use Rattle.pass.specs.declared.Stopped.{Stopped}
 use Rattle.pass.proofs.Given.{loaded, given, given_at_end, given_budget_used, given_stop, given_step}
 use Rattle.pass.proofs.Reached.{Reached, sound, ends, stands_with}
 use Rattle.pass.proofs.Turned.{gives}
@@ -68,17 +69,20 @@ as_long {A = A} array n f e few long = ap (λ (l : List A). length l) e ∙ leng
 -- ---- what a turn found, by what the longest step gave
 
 module _ (r : Record) where
-  found_stop : (stop : Stop) (x : Turn) → NoneTaken stop ≡ gives r x → x ≡ stops stop
+  found_stop : (stop : Stop) (x : Turn) → Err stop ≡ gives r x → x ≡ stops stop
   unfolding gives
   found_stop stop (stops other) e = cc
   found_stop stop (goes t) e = let z : ◌≡◌ {A = ℕ} 0 1 = cc in absurd (omega arith)
 
-  found_step : (t : ℕ) (first last : ℤ) (x : Turn) → Taken t first last ≡ gives r x →
-      (x ≡ goes t) × (first ≡ first_or (pos 0) (upward_flows r.layer.frame.top r.layer.frame.bottom t (read_elements (record_site r) (record_state r)))) ×
-      (last ≡ last_or (pos 0) (upward_flows r.layer.frame.top r.layer.frame.bottom t (read_elements (record_site r) (record_state r))))
+  found_step : (taken : Taken) (x : Turn) → Ok taken ≡ gives r x → let t = taken.seconds in
+      (x ≡ goes t) × (taken.flows.bottom ≡ first_or (pos 0) (upward_flows r.layer.frame.top r.layer.frame.bottom t (read_elements (record_site r) (record_state r)))) ×
+      (taken.flows.top ≡ last_or (pos 0) (upward_flows r.layer.frame.top r.layer.frame.bottom t (read_elements (record_site r) (record_state r))))
   unfolding gives
-  found_step t first last (stops other) e = let z : ◌≡◌ {A = ℕ} 0 1 = cc in absurd (omega arith)
-  found_step t first last (goes u) e = (cc, cc, cc)
+  found_step taken (stops other) e = let z : ◌≡◌ {A = ℕ} 0 1 = cc in absurd (omega arith)
+  found_step taken (goes u) e =
+      let flows = upward_flows r.layer.frame.top r.layer.frame.bottom u (read_elements (record_site r) (record_state r)) in
+      let same : taken ≡ record { seconds = u; flows = record { bottom = first_or (pos 0) flows; top = last_or (pos 0) flows } } = cc in
+      rw same (refl, refl, refl)
 
 -- ---- what a pass found, by what it gave
 
@@ -87,12 +91,13 @@ record Went (after : Progress) (x : Turn) (progress : Progress) : Type 0 where
   goes_is : x ≡ goes t
   after_is : after ≡ progress
 
-pass_stop : (stop : Stop) (under : Progress) (x : Turn) (p : Progress) → Stops stop under ≡ passed_by x p → (x ≡ stops stop) × (under ≡ p)
+pass_stop : (stopped : Stopped) (x : Turn) (p : Progress) → Err stopped ≡ passed_by x p → (x ≡ stops stopped.stop) × (stopped.progress ≡ p)
 unfolding passed_by
-pass_stop stop under (stops other) p e = (cc, cc)
-pass_stop stop under (goes t) p e = let z : ◌≡◌ {A = ℕ} 0 1 = cc in absurd (omega arith)
+pass_stop stopped (stops other) p e =
+    let same : stopped ≡ record { stop = other; progress = p } = cc in rw same (refl, refl)
+pass_stop stopped (goes t) p e = let z : ◌≡◌ {A = ℕ} 0 1 = cc in absurd (omega arith)
 
-pass_step : (after : Progress) (x : Turn) (p : Progress) → Goes after ≡ passed_by x p → Went after x p
+pass_step : (after : Progress) (x : Turn) (p : Progress) → Ok after ≡ passed_by x p → Went after x p
 unfolding passed_by
 pass_step after (stops other) p e = let z : ◌≡◌ {A = ℕ} 0 1 = cc in absurd (omega arith)
 pass_step after (goes t) p e = record { t = t; goes_is = refl; after_is = cc }
@@ -153,24 +158,27 @@ module _ {r : Record} {end budget : ℕ} {water : List ℕ} {now : Progress} {st
   -- ---- what it gives, by what the longest step gave
 
   -- a stop, with the table's load
-  pub gives_stop : {p : Progress} → p ≡ under.layer.progress → (stop : Stop) → NoneTaken stop ≡ gives under (passing.found here end) →
-      Stops stop p ≡ passed_by (passing.found here end) (passing.passed here end).layer.progress
+  pub gives_stop : {p : Progress} → p ≡ under.layer.progress → (stop : Stop) → Err stop ≡ gives under (passing.found here end) →
+      Err (record { stop = stop; progress = p }) ≡ passed_by (passing.found here end) (passing.passed here end).layer.progress
   unfolding passed_by turned
   gives_stop p-is stop gave = rw (found_stop under stop (passing.found here end) gave, p-is) refl
 
-  module _ (t : ℕ) (first last : ℤ) (gave : Taken t first last ≡ gives under (passing.found here end)) where
+  module _ (taken : Taken) (gave : Ok taken ≡ gives under (passing.found here end)) where
+    abbrev t : ℕ
+    t = taken.seconds
+
     pub went : passing.found here end ≡ goes t
-    went = (found_step under t first last (passing.found here end) gave).0
+    went = (found_step under taken (passing.found here end) gave).0
 
     -- the progress after a step
-    pub later_is : {p : Progress} → p ≡ under.layer.progress → progress.later p t first last ≡ progress_of (stepped (record_site under) t (record_state under))
+    pub later_is : {p : Progress} → p ≡ under.layer.progress → progress.later p t taken.flows.bottom taken.flows.top ≡ progress_of (stepped (record_site under) t (record_state under))
     unfolding stepped record_site record_state
     later_is p-is =
-        let (goes_is, first_is, last-is) = found_step under t first last (passing.found here end) gave in
+        let (goes_is, first_is, last-is) = found_step under taken (passing.found here end) gave in
         rw (p-is, first_is, last-is) refl
 
     pub gives_step : {p : Progress} → p ≡ under.layer.progress →
-        Goes (progress.later p t first last) ≡ passed_by (passing.found here end) (passing.passed here end).layer.progress
+        Ok (progress.later p t taken.flows.bottom taken.flows.top) ≡ passed_by (passing.found here end) (passing.passed here end).layer.progress
     unfolding passed_by turned with_state
     gives_step p-is = rw (went, later_is p-is) refl
 
@@ -253,15 +261,15 @@ module _ {r : Record} {end budget : ℕ} {water : List ℕ} {now : Progress} {st
   -- ---- by what a pass gave
 
   module _ (before : eqb now.clock.0 end ≡ false) (left : steps < budget) {water' : List ℕ} (moved : water' ≡ (passing.passed here end).layer.water) where
-    pub pass_stops : (stop : Stop) (p : Progress) → Stops stop p ≡ passed_by (passing.found here end) (passing.passed here end).layer.progress →
-        ended_run r end budget ≡ record { stop = stop; steps = steps; after = with_parts r water' p }
+    pub pass_stops : (out : Stopped) → Err out ≡ passed_by (passing.found here end) (passing.passed here end).layer.progress →
+        ended_run r end budget ≡ record { stop = out.stop; steps = steps; after = with_parts r water' out.progress }
     unfolding record_site record_state with_load turned
-    pass_stops stop p gave =
-        let (stopped, p-is) = pass_stop stop p (passing.found here end) _ gave in
+    pass_stops out gave =
+        let (stopped, p-is) = pass_stop out (passing.found here end) _ gave in
         let still : (passing.passed here end).layer.progress ≡ progress_of next = rw stopped refl in
-        rw (p-is ∙ still) (stop_ends before left moved stop stopped)
+        rw (p-is ∙ still) (stop_ends before left moved out.stop stopped)
 
-    pub pass_goes : (after : Progress) → Goes after ≡ passed_by (passing.found here end) (passing.passed here end).layer.progress →
+    pub pass_goes : (after : Progress) → Ok after ≡ passed_by (passing.found here end) (passing.passed here end).layer.progress →
         Reached r end budget water' after (steps + 1)
     unfolding record_site record_state with_load
     pass_goes after gave =

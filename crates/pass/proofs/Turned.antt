@@ -8,8 +8,9 @@ use mathlib.Core.Path.{◌≡◌, refl, sym, ap, ◌∙◌}
 use Rattle.element.specs.Elements.{Readable}
 use Rattle.layer_step.proofs.MovingAt.{gives_leaves, gives_flows, keeps, moves_on}
 use Rattle.layer_step.specs.Moving.{flows_in, stays_between, moved_in, longest_by, water_longest, flows_longest}
-use Rattle.layer_step.specs.declared.Longest.{Longest}
-use Rattle.layer_step.specs.declared.Longest.TheVariants.{NoneTaken, Taken}
+use Rattle.layer_step.specs.declared.Taken.{Taken}
+use Rattle.std.specs.Prelude.{Result, Ok, Err}
+use Rattle.rules.specs.declared.answers.Stop.{Stop}
 use Rattle.lent.proofs.LayerReads.{steepness_range, readable, limited, bounds_most, waters_most, longest_is, flows_are, leaves_is, stepped_is, above_are}
 use Rattle.lent.specs.Worked.{WorkedOut, least_water_in, most_water_in, excesses_in, resistances_in}
 use Rattle.numbers.specs.Lists.{first_or, last_or, greatest}
@@ -25,12 +26,16 @@ use Rattle.rules.specs.declared.record.Record.{Record}
 use Rattle.step_length.specs.Reach.{Limited, longest_within}
 
 -- what the longest step gives, by the rules' turn
-unfoldable pub gives : Record → Turn → Longest
+unfoldable pub gives : Record → Turn → Result Taken Stop
 unfolding first_or last_or upward_flows read_elements
-gives r (stops stop) = NoneTaken stop
+gives r (stops stop) = Err stop
 gives r (goes t) =
     let flows = upward_flows r.layer.frame.top r.layer.frame.bottom t (read_elements (record_site r) (record_state r)) in
-    Taken t (first_or (pos 0) flows) (last_or (pos 0) flows)
+    Ok (record { seconds = t; flows = record { bottom = first_or (pos 0) flows; top = last_or (pos 0) flows } })
+
+-- a step taken with the first and the last of its flows
+abbrev taken-by : ℕ → List ℤ → Result Taken Stop
+taken-by t flows = Ok (record { seconds = t; flows = record { bottom = first_or (pos 0) flows; top = last_or (pos 0) flows } })
 
 -- a turn with a step, by whether it leaves the curve
 leaving : (site : Site) (s : State) (t : ℕ) (leaves : Bool) → leaves_curve site s (suc t) ≡ leaves →
@@ -65,7 +70,7 @@ module _ (r : Record) (is : is_layer r ≡ true) (excess₀ : List ℤ) (resista
   by_stay t true e =
       let on = leaving (record_site r) (record_state r) t false (leaves_is r is excess₀ resistance₀ (suc t) ∙ ap not e) in (
         ap (longest_by (suc t)) (sym (gives_flows (flows (suc t)) e refl refl)) ∙
-            ap (λ (l : List ℤ). Taken (suc t) (first_or (pos 0) l) (last_or (pos 0) l)) (flows_are r is excess₀ resistance₀ (suc t)) ∙ rw on refl,
+            ap (λ (l : List ℤ). taken-by (suc t) l) (flows_are r is excess₀ resistance₀ (suc t)) ∙ rw on refl,
         sym (moves_on n r.layer.water (flows (suc t)) e) ∙ stepped_is r is excess₀ resistance₀ (suc t) ∙ rw on refl,
         above_are r is excess₀ resistance₀ (suc t) above,
       )

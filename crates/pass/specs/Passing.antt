@@ -10,8 +10,8 @@ use Rattle.rules.specs.Run.{longest_step, Turn, stops, goes, turn}
 use Rattle.rules.specs.Step.{flows_above, stepped}
 use Rattle.rules.specs.declared.record.Progress.{Progress}
 use Rattle.rules.specs.declared.record.Record.{Record}
-use Rattle.pass.specs.declared.Passed.{Passed}
-use Rattle.pass.specs.declared.Passed.TheVariants.{Stops, Goes}
+use Rattle.pass.specs.declared.Stopped.{Stopped}
+use Rattle.std.specs.Prelude.{Result, Ok, Err}
 
 -- the layer under the table's load
 abbrev pub under_table : Record → Record
@@ -37,9 +37,9 @@ abbrev pub passed : Record → (end : ℕ) → Record
 passed r end = turned (under_table r) (found r end)
 
 -- what the pass gives, by what it found
-unfoldable pub passed_by : Turn → Progress → Passed
-passed_by (stops stop) after = Stops stop after
-passed_by (goes t) after = Goes after
+unfoldable pub passed_by : Turn → Progress → Result Progress Stopped
+passed_by (stops stop) after = Err (record { stop = stop; progress = after })
+passed_by (goes t) after = Ok after
 
 -- the flows above the elements that it works out, where there is a step
 unfoldable pub flows_turned : Record → (t : ℕ) (above : List ℤ) → List ℤ

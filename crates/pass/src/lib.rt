@@ -10,21 +10,20 @@ ghost use Rattle.quantities.specs.Quantities.{clock_limits};
 ghost use Rattle.rules.specs.Record.{soil_of, layer_of, record_of, is_layer};
 ghost use Rattle.rules.specs.declared.record.Record.{Record};
 
-use layer_step::Longest;
 use lent::state;
-use quantities::Seconds;
+use quantities::{Quantity, Seconds};
 use rules::answers::Stop;
 use rules::record::{CurveCounts, Frame, Progress};
 
-// What a pass gives: its stop with the layer's progress under the table's load, or the progress after its step.
+// Why a run stops, and the layer's progress under the table's load as it stops.
 #[derive(Clone, Copy)]
-pub enum Passed {
-    Stops(Stop, Progress),
-    Goes(Progress),
+pub struct Stopped {
+    pub stop: Stop,
+    pub progress: Progress,
 }
 
 // One pass before the end, on a layer that is lent by its parts with what is worked out once for it: the table's load is set, the
-// layer is read, and the longest step within reach is taken.
+// layer is read, and the longest step within reach is taken. It gives the progress after its step.
 pub fn pass<'a>(
     counts: CurveCounts,
     frame: Frame,
@@ -48,7 +47,7 @@ pub fn pass<'a>(
     excess: &mut [i64; 128],
     resistance: &mut [u64; 128],
     above: &mut [i64; 128],
-) -> Passed
+) -> Result<Progress, Stopped>
     requires r_value { let r : Record = record_of (soil_of counts void.now stress.now conductivity_void.now conductivity.now) (layer_of frame progress solids.now water.old table_time.now table_load.now) in is_layer r ≡ true }
     requires clock_lt_end { (progress.clock.0 < end) × (end ≤ clock_limits.most) }
     requires worked_out { let r : Record = record_of (soil_of counts void.now stress.now conductivity_void.now conductivity.now) (layer_of frame progress solids.now water.old table_time.now table_load.now) in WorkedOut r burden.now sensitivity.now low.now high.now steepness }
@@ -84,7 +83,7 @@ pub fn pass<'a>(
         resistance,
     );
     let next = table::next_time(frame.table_points, table_time, clock, end);
-    let most = numbers::lesser(Seconds::MOST, numbers::lesser(end, next) - clock);
+    let most = Seconds::LIMITS.most.min(end.min(next) - clock);
     match layer_step::advance_longest(
         elements,
         top,
@@ -99,7 +98,10 @@ pub fn pass<'a>(
         above,
         water,
     ) {
-        Longest::NoneTaken(stop) => Passed::Stops(stop, under),
-        Longest::Taken(t, first, last) => Passed::Goes(state::later(under, t, first, last)),
+        Err(stop) => Err(Stopped {
+            stop,
+            progress: under,
+        }),
+        Ok(taken) => Ok(state::later(under, taken.seconds, taken.flows)),
     }
 }

@@ -9,7 +9,6 @@ ghost use Rattle.rules.specs.Calls.{ended_run};
 ghost use Rattle.rules.specs.Record.{soil_of, layer_of, record_of, with_parts, is_layer};
 ghost use Rattle.rules.specs.declared.record.Record.{Record};
 
-use pass::Passed;
 use rules::answers::{Ended, Stop};
 use rules::record::{CurveCounts, Frame, Progress};
 
@@ -87,8 +86,8 @@ pub fn passes<'a>(
             &mut resistance,
             &mut above,
         ) {
-            Passed::Stops(stop, under) => return ended(stop, steps, under),
-            Passed::Goes(after) => now = after,
+            Err(stopped) => return ended(stopped.stop, steps, stopped.progress),
+            Ok(after) => now = after,
         }
         steps += 1;
     }

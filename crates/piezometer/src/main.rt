@@ -2,18 +2,14 @@
 
 #![tactic(auto)]
 
-ghost use Rattle.std.specs.Prelude.{length, ◌≡◌, ◌*◌, ◌≤◌, min};
+ghost use Rattle.std.specs.Prelude.{length, ◌≡◌, ◌*◌, ◌≤◌};
 ghost use Rattle.key.specs.Readings.{job_readings};
 ghost use Rattle.numbers.specs.Arrays.{overlaid};
-ghost use Rattle.numbers.specs.Bytes.{field};
 ghost use Rattle.piezometer.specs.FieldOutput.{readings_most, answers_most, words_output, field_output};
-ghost use Rattle.rules.specs.Program.{input_most};
 
 use field_data::{ANSWER_WORDS, READING_WORDS};
 use std::io;
-
-// The most bytes of a job that are read.
-const JOB_MOST: usize = 8_192;
+use words::bytes;
 
 // The bytes of a reading.
 const READING_BYTES: usize = 24;
@@ -27,13 +23,6 @@ const ANSWERS: usize = 5_120;
 
 const ROOM: usize = 40_960;
 
-// How many bytes of a job are to be read: the number in a head, at most the most.
-fn job_length(head: &[u8]) -> usize
-    ensures { result ≡ min (field 8 0 head.now) input_most }
-{
-    numbers::lesser(words::bytes::word_at(head, 0), JOB_MOST as u64) as usize
-}
-
 // Stores what is written for a job and readings by their words at the start of a buffer, and gives its length.
 fn answer_words(job: &[u8], readings: &[u64], answers: &mut [u64], out: &mut [u8]) -> usize
     requires { (16 ≤ length out.old) × (8 * length answers.old ≤ length out.old) }
@@ -44,7 +33,7 @@ fn answer_words(job: &[u8], readings: &[u64], answers: &mut [u64], out: &mut [u8
     if number != 0 {
         return answers::refused_line(number, out);
     }
-    words::bytes::put_words(answers, out);
+    bytes::put_words(answers, out);
     8 * answers.len()
 }
 
@@ -57,7 +46,7 @@ fn answer(job: &[u8], readings: &[u8], out: &mut [u8]) -> usize
     let asked = READING_WORDS * count;
     let told = ANSWER_WORDS * count;
     let mut words = [0u64; WORDS];
-    words::bytes::read_words(readings, &mut words[..asked]);
+    bytes::read_words(readings, &mut words[..asked]);
     let mut answers = [0u64; ANSWERS];
     answer_words(job, &words[..asked], &mut answers[..told], out)
 }
@@ -66,8 +55,8 @@ fn main(rt: HostRuntime) -> io::Result<()> {
     let mut input = rt.stdin();
     let mut head = [0u8; 8];
     streams::read_full(&mut input, &mut head)?;
-    let length = job_length(&head);
-    let mut job = [0u8; JOB_MOST];
+    let length = bytes::job_length(&head);
+    let mut job = [0u8; bytes::JOB_MOST];
     let job_read = streams::read_full(&mut input, &mut job[..length])?;
     let mut readings = [0u8; READINGS_MOST];
     let read = streams::read_full(&mut input, &mut readings)?;

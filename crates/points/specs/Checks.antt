@@ -1,7 +1,8 @@
 -- The tests of a curve's points, one point and one segment at a time.
 use Rattle.std.specs.Prelude.{leb, ltb, Bool, ◌&&◌}
 use Rattle.rules.specs.Curve.{Point}
-use Rattle.quantities.specs.Quantities.{Limits, within}
+use Rattle.quantities.specs.Quantities.{within}
+use Rattle.quantities.specs.declared.quantity.Limits.{Limits}
 use Rattle.points.specs.declared.checks.Trend.{Trend}
 use Rattle.points.specs.declared.checks.Trend.TheVariants.{Falls, Rises, Later}
 

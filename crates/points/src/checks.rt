@@ -3,9 +3,10 @@ ghost use Rattle.std.specs.Prelude.{true, List, ◌≡◌, ℕ, ◌+◌, ◌≤�
 ghost use Rattle.points.specs.Checks.{point_within, follows};
 ghost use Rattle.numbers.specs.Lists.{all, neighbours};
 ghost use Rattle.rules.specs.Curve.{point, points, rising, covers, compressibility_sound, conductivity_sound};
-ghost use Rattle.quantities.specs.Quantities.{curve_limits, limits_of};
+ghost use Rattle.quantities.specs.Quantities.{curve_limits};
 
-use quantities::Kind;
+use quantities::quantity::Limits;
+use quantities::{Conductivity, Pressure, Quantity, Void};
 
 // How points follow one another: on the compressibility curve, on the conductivity curve, in the load table.
 #[derive(Clone, Copy)]
@@ -15,14 +16,15 @@ pub enum Trend {
     Later,
 }
 
-// Whether a point's abscissa and ordinate keep the limits of their kinds.
-pub fn point_within(x: u64, y: u64, abscissa: Kind, ordinate: Kind) -> bool
-    ensures { result ≡ point_within (limits_of abscissa) (limits_of ordinate) (point x y) }
+// Whether a point's abscissa and ordinate keep the limits of their kinds, X and Y.
+pub fn point_within<X: Quantity, Y: Quantity>(x: u64, y: u64) -> bool
+    ensures { result ≡ point_within X.LIMITS Y.LIMITS (point x y) }
 {
-    abscissa.within(x) && ordinate.within(y)
+    X::within(x) && Y::within(y)
 }
 
 // Whether two points follow one another so.
+#[tactic(auto, unfolding(crate::specs::Checks::follows))]
 pub fn follows(trend: Trend, x0: u64, y0: u64, x1: u64, y1: u64) -> bool
     ensures { result ≡ follows trend (point x0 y0) (point x1 y1) }
 {
@@ -33,28 +35,26 @@ pub fn follows(trend: Trend, x0: u64, y0: u64, x1: u64, y1: u64) -> bool
     }
 }
 
-// Whether every point keeps the limits of its kinds.
-pub fn points_within<'a>(
+// Whether every point keeps the limits of its kinds, X and Y.
+#[tactic(auto, using(rules::proofs::Points::all_step, rules::proofs::Points::all_end))]
+pub fn points_within<'a, X: Quantity, Y: Quantity>(
     count: usize,
     xs: &'a [u64; 64],
     ys: &'a [u64; 64],
-    abscissa: Kind,
-    ordinate: Kind,
 ) -> bool
     requires { count ≤ 64 }
-    ensures { result ≡ all (point_within (limits_of abscissa) (limits_of ordinate)) (points count xs.now ys.now) }
+    ensures { result ≡ all (point_within X.LIMITS Y.LIMITS) (points count xs.now ys.now) }
 {
-    let mut i: usize = 0;
-    while i < count {
-        if !point_within(xs[i], ys[i], abscissa, ordinate) {
+    for i in 0..count {
+        if !point_within::<X, Y>(xs[i], ys[i]) {
             return false;
         }
-        i += 1;
     }
     true
 }
 
 // Whether every two neighbours follow one another so.
+#[tactic(auto, using(rules::proofs::Points::neighbours_step, rules::proofs::Points::neighbours_end))]
 pub fn neighbours_follow<'a>(
     trend: Trend,
     count: usize,
@@ -64,26 +64,26 @@ pub fn neighbours_follow<'a>(
     requires { count ≤ 64 }
     ensures { result ≡ neighbours (follows trend) (points count xs.now ys.now) }
 {
-    let mut i: usize = 0;
-    while i + 1 < count {
-        if !follows(trend, xs[i], ys[i], xs[i + 1], ys[i + 1]) {
+    for i in 1..count {
+        if !follows(trend, xs[i - 1], ys[i - 1], xs[i], ys[i]) {
             return false;
         }
-        i += 1;
     }
     true
 }
 
 // Cause 6: whether the compressibility curve is sound.
+#[tactic(auto, unfolding(crate::specs::Checks::follows, rules::specs::Curve::compressibility_sound, rules::specs::Curve::falling))]
 pub fn compressibility_sound<'a>(count: usize, void: &'a [u64; 64], stress: &'a [u64; 64]) -> bool
     requires { count ≤ curve_limits.most }
     ensures { result ≡ compressibility_sound (points count void.now stress.now) }
 {
-    points_within(count, void, stress, Kind::Void, Kind::Stress)
+    points_within::<Void, Pressure>(count, void, stress)
         && neighbours_follow(Trend::Falls, count, void, stress)
 }
 
 // Whether every void ratio of the first curve's points lies on the second, a rising one.
+#[tactic(auto, using(rules::proofs::Points::all_step, rules::proofs::Points::all_end, crate::proofs::Covers::between_ends), unfolding(rules::specs::Curve::covers))]
 pub fn covers<'a>(
     count: usize,
     void: &'a [u64; 64],
@@ -97,19 +97,20 @@ pub fn covers<'a>(
     ensures { (stress : List ℕ) → result ≡ covers (points count void.now conductivity.now) (points first_count first_void.now stress) }
 {
     let last = count - 1;
-    let least = void[0];
-    let most = void[last];
-    let mut i: usize = 0;
-    while i < first_count {
-        if !quantities::within(least, most, first_void[i]) {
+    let ends = Limits {
+        least: void[0],
+        most: void[last],
+    };
+    for i in 0..first_count {
+        if !ends.contains(first_void[i]) {
             return false;
         }
-        i += 1;
     }
     true
 }
 
 // Cause 7: whether the conductivity curve is sound and covers the first.
+#[tactic(auto, unfolding(crate::specs::Checks::follows, rules::specs::Curve::conductivity_sound, rules::specs::Curve::rising))]
 pub fn conductivity_sound<'a>(
     count: usize,
     void: &'a [u64; 64],
@@ -122,7 +123,7 @@ pub fn conductivity_sound<'a>(
     requires first_count_le_most { first_count ≤ curve_limits.most }
     ensures { result ≡ conductivity_sound (points count void.now conductivity.now) (points first_count first_void.now first_stress.now) }
 {
-    if !points_within(count, void, conductivity, Kind::Void, Kind::Conductivity) {
+    if !points_within::<Void, Conductivity>(count, void, conductivity) {
         return false;
     }
     if !neighbours_follow(Trend::Rises, count, void, conductivity) {

@@ -26,10 +26,8 @@ pub fn height_below<'a>(elements: usize, solids: &'a [u64; 128], water: &'a [u64
     ensures upper_bound { result ≤ most_height }
 {
     let mut height: u64 = 0;
-    let mut j: usize = 0;
-    while j < elements {
+    for j in 0..elements {
         height += solids[j] + water[j];
-        j += 1;
     }
     height
 }

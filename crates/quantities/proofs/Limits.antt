@@ -11,12 +11,11 @@ use Rattle.numbers.proofs.Interval.{within-cut, within-mul, within_pos}
 use Rattle.numbers.proofs.Searches.{both, passed}
 use Rattle.numbers.proofs.Signed.{signed}
 use Rattle.numbers.specs.Interval.{Within}
-use Rattle.quantities.specs.Quantities.{Limits, within, within_ℤ, from◌to◌, stress_limits, void_limits, level_limits, clock_limits, head, pressure, pressure_of, most_head_pressure}
-use Rattle.quantities.specs.Tested.{tested, tested_head, tested_pressure, tested_void, tested_clock}
-use Rattle.quantities.specs.declared.TestedHead.{TestedHead}
-use Rattle.quantities.specs.declared.TestedPressure.{TestedPressure}
-use Rattle.quantities.specs.declared.TestedVoid.{TestedVoid}
-use Rattle.quantities.specs.declared.TestedClock.{TestedClock}
+use Rattle.quantities.specs.Quantities.{within, within_ℤ, from◌to◌, stress_limits, void_limits, level_limits, clock_limits, head, pressure, pressure_of, most_head_pressure}
+use Rattle.quantities.specs.Tested.{tested}
+use Rattle.quantities.specs.declared.quantity.Limits.{Limits}
+use Rattle.std.specs.Prelude.{if◌then◌else◌, Some, None}
+use Rattle.std.proofs.lemmas.Option.{none-some}
 
 module _ (limits : Limits) (n : ℕ) where
   pub inside : limits.least ≤ n → n ≤ limits.most → within limits n ≡ true
@@ -68,55 +67,21 @@ unfolding within_ℤ
 too_large_signed limits (pos n) e h = too_large limits n (omega arith) (omega signed)
 too_large_signed limits (negsuc n) e h = absurd h.lt
 
--- what a constructor answers, by what its test said
-module _ {A : Type 0} (limits : Limits) (n : ℕ) (kept outside : A) where
-  pub tested_kept : within limits n ≡ true → kept ≡ tested limits n kept outside
-  unfolding tested
-  tested_kept e = rw (e, tested)
+-- what the answer of a constructor tells of its number
+module _ {A : Type 0} (limits : Limits) (n : ℕ) (value : A) where
+  pub tested_some : {x : A} → Some x ≡ tested limits n value → (within limits n ≡ true) × (x ≡ value)
+  tested_some {x} e = go (within limits n) e
+    where
+      go : (b : Bool) → Some x ≡ (if b then Some value else None) → (b ≡ true) × (x ≡ value)
+      go true e = (refl, cc)
+      go false e = absurd (none-some x (sym e))
 
-  pub tested_outside : within limits n ≡ false → outside ≡ tested limits n kept outside
-  unfolding tested
-  tested_outside e = rw (e, tested)
-
--- an answer tells what the test of its case showed
-pub tested_tells : {A : Type 0} (Tells : A → Type 0) (limits : Limits) (n : ℕ) {kept outside answer : A} → answer ≡ tested limits n kept outside →
-    (within limits n ≡ true → Tells kept) → (within limits n ≡ false → Tells outside) → Tells answer
-unfolding tested
-tested_tells Tells limits n {kept} {outside} told f g = rw told (go (within limits n) f g)
-  where
-    go : (b : Bool) → (b ≡ true → Tells kept) → (b ≡ false → Tells outside) → Tells (elim b [ true ↦ kept | false ↦ outside ])
-    go true f g = f refl
-    go false f g = g refl
-
--- for each kind with a constructor: the number keeps the limits and is the value, or it is outside them
-module _ (n : ℕ) where
-  abbrev pub HeadTells : TestedHead → Type 0
-  HeadTells (TestedHead.Within level) = (within level_limits n ≡ true) × (level ≡ head (pos n))
-  HeadTells TestedHead.Outside = within level_limits n ≡ false
-
-  pub head_tells : {answer : TestedHead} → answer ≡ tested_head n → HeadTells answer
-  head_tells told = tested_tells HeadTells level_limits n told (λ e. (e, refl)) (λ e. e)
-
-  abbrev pub PressureTells : TestedPressure → Type 0
-  PressureTells (TestedPressure.Within stress) = (within stress_limits n ≡ true) × (stress ≡ pressure (pos n))
-  PressureTells TestedPressure.Outside = within stress_limits n ≡ false
-
-  pub pressure_tells : {answer : TestedPressure} → answer ≡ tested_pressure n → PressureTells answer
-  pressure_tells told = tested_tells PressureTells stress_limits n told (λ e. (e, refl)) (λ e. e)
-
-  abbrev pub VoidTells : TestedVoid → Type 0
-  VoidTells (TestedVoid.Within ratio) = (within void_limits n ≡ true) × (ratio ≡ record { 0 = n })
-  VoidTells TestedVoid.Outside = within void_limits n ≡ false
-
-  pub void_tells : {answer : TestedVoid} → answer ≡ tested_void n → VoidTells answer
-  void_tells told = tested_tells VoidTells void_limits n told (λ e. (e, refl)) (λ e. e)
-
-  abbrev pub ClockTells : TestedClock → Type 0
-  ClockTells (TestedClock.Within seconds) = (within clock_limits n ≡ true) × (seconds ≡ record { 0 = n })
-  ClockTells TestedClock.Outside = within clock_limits n ≡ false
-
-  pub clock_tells : {answer : TestedClock} → answer ≡ tested_clock n → ClockTells answer
-  clock_tells told = tested_tells ClockTells clock_limits n told (λ e. (e, refl)) (λ e. e)
+  pub tested_none : None ≡ tested limits n value → within limits n ≡ false
+  tested_none e = go (within limits n) e
+    where
+      go : (b : Bool) → None ≡ (if b then Some value else None) → b ≡ false
+      go true e = absurd (none-some value e)
+      go false e = refl
 
 -- the pressure of a head between two levels is in range
 pub pressure-within : {h : ℤ} → Within h level_limits.most → Within (pressure_of (head h)).0 most_head_pressure

@@ -1,17 +1,11 @@
 -- Quantities: the limits of each kind, and the weight of water.
 -- Lengths and volumes per unit area are in nanometres, stresses and pressures in millipascals, times in seconds,
 -- conductivities in femtometres per second, void ratios in hundred-millionths.
-use Rattle.std.specs.Prelude.{ℕ, ◌*◌, ◌/◌, leb, ℤ, pos, negsuc, nat_abs, ◌*ℤ◌, Bool, false, ◌&&◌}
+use Rattle.std.specs.Prelude.{ℕ, ◌*◌, ◌/◌, leb, ℤ, pos, negsuc, nat_abs, ◌*ℤ◌, Bool, false, ◌&&◌, Option}
 use Rattle.numbers.specs.Rounding.{cut}
 use Rattle.quantities.specs.declared.Head.{Head}
-use Rattle.quantities.specs.declared.Kind.{Kind}
-use Rattle.quantities.specs.declared.Kind.TheVariants.{Stress, Void, Conductivity, Time, Solids, Water, Zero}
+use Rattle.quantities.specs.declared.quantity.Limits.{Limits}
 use Rattle.quantities.specs.declared.Pressure.{Pressure}
-
--- the least and the greatest number of a kind
-pub record Limits : Type 0 where
-  pub least : ℕ
-  pub most : ℕ
 
 infix 40 from◌to◌
 abbrev pub from◌to◌ : ℕ → ℕ → Limits
@@ -67,15 +61,13 @@ flag_limits = from 0 to 1
 abbrev pub start_limits : Limits
 start_limits = from 0 to 2
 
--- the limits of each kind that arrays hold
-abbrev pub limits_of : Kind → Limits
-limits_of Stress = stress_limits
-limits_of Void = void_limits
-limits_of Conductivity = conductivity_limits
-limits_of Time = clock_limits
-limits_of Solids = solids_limits
-limits_of Water = water_limits
-limits_of Zero = from 0 to 0
+-- a field that must be 0
+abbrev pub zero_limits : Limits
+zero_limits = from 0 to 0
+
+-- what a curve gives at an abscissa: its ordinate, or nothing off the curve
+abbrev pub CurveValue : Type 0
+CurveValue = Option ℕ
 
 -- a void ratio of 1
 abbrev pub void_unit : ℕ

@@ -4,55 +4,36 @@
 
 ghost use Rattle.std.specs.Prelude.{◌≡◌, ◌≤◌};
 ghost use Rattle.numbers.specs.Interval.{Within};
-ghost use Rattle.quantities.specs.Quantities.{within, within_ℤ, stress_limits, void_limits, conductivity_limits, level_limits, clock_limits, solids_limits, water_limits, step_limits, budget_limits, gravity_limits, element_limits, curve_limits, table_limits, flag_limits, start_limits, starting_water_limits, limits_of, outflow_within, pressure_of, from◌to◌};
+ghost use Rattle.quantities.specs.Quantities.{within_ℤ, stress_limits, void_limits, conductivity_limits, level_limits, clock_limits, solids_limits, water_limits, step_limits, budget_limits, gravity_limits, element_limits, curve_limits, table_limits, flag_limits, start_limits, starting_water_limits, zero_limits, outflow_within, pressure_of};
 ghost use Rattle.quantities.specs.Tested.{tested_head, tested_pressure, tested_void, tested_clock};
 
-// Whether a number keeps limits.
-pub fn within(least: u64, most: u64, n: u64) -> bool
-    ensures { result ≡ within (from least to most) n }
-{
-    least <= n && n <= most
-}
+pub mod quantity;
 
-// Whether a signed number keeps limits: none of the kinds goes below 0.
-pub fn within_signed(least: u64, most: u64, z: i64) -> bool
-    ensures { result ≡ within_ℤ (from least to most) z }
-{
-    if z < 0 {
-        return false;
-    }
-    within(least, most, z as u64)
-}
+use quantity::Limits;
+pub use quantity::Quantity;
 
 // A length in nanometres: a level, or a head of water, which is a difference of levels.
 #[derive(Clone, Copy)]
 pub struct Head(pub i64);
 
-#[derive(Clone, Copy)]
-pub enum TestedHead {
-    Within(Head),
-    Outside,
+impl Quantity for Head {
+    ghost LIMITS = { level_limits };
+
+    const LIMITS: Limits = Limits {
+        least: 0,
+        most: 200_000_000_000,
+    };
 }
 
 impl Head {
-    pub const LEAST: u64 = 0;
-
-    pub const MOST: u64 = 200_000_000_000;
-
-    pub fn within(n: u64) -> bool
-        ensures { result ≡ within level_limits n }
-    {
-        within(Head::LEAST, Head::MOST, n)
-    }
-
     // A level, if it keeps the limits.
-    pub fn new(level: u64) -> TestedHead
+    pub fn new(level: u64) -> Option<Head>
         ensures { result ≡ tested_head level }
     {
         if Head::within(level) {
-            TestedHead::Within(Head(level as i64))
+            Some(Head(level as i64))
         } else {
-            TestedHead::Outside
+            None
         }
     }
 
@@ -60,7 +41,7 @@ impl Head {
     pub fn is_level(self) -> bool
         ensures { result ≡ within_ℤ level_limits self.0 }
     {
-        within_signed(Head::LEAST, Head::MOST, self.0)
+        Head::LIMITS.contains_signed(self.0)
     }
 
     // The pressure of the head, by the weight of water, cut toward zero.
@@ -76,31 +57,24 @@ impl Head {
 #[derive(Clone, Copy)]
 pub struct Pressure(pub i64);
 
-#[derive(Clone, Copy)]
-pub enum TestedPressure {
-    Within(Pressure),
-    Outside,
+impl Quantity for Pressure {
+    ghost LIMITS = { stress_limits };
+
+    const LIMITS: Limits = Limits {
+        least: 0,
+        most: 2_000_000_000,
+    };
 }
 
 impl Pressure {
-    pub const LEAST: u64 = 0;
-
-    pub const MOST: u64 = 2_000_000_000;
-
-    pub fn within(n: u64) -> bool
-        ensures { result ≡ within stress_limits n }
-    {
-        within(Pressure::LEAST, Pressure::MOST, n)
-    }
-
     // A stress, if it keeps the limits.
-    pub fn new(stress: u64) -> TestedPressure
+    pub fn new(stress: u64) -> Option<Pressure>
         ensures { result ≡ tested_pressure stress }
     {
         if Pressure::within(stress) {
-            TestedPressure::Within(Pressure(stress as i64))
+            Some(Pressure(stress as i64))
         } else {
-            TestedPressure::Outside
+            None
         }
     }
 
@@ -108,7 +82,7 @@ impl Pressure {
     pub fn is_stress(self) -> bool
         ensures { result ≡ within_ℤ stress_limits self.0 }
     {
-        within_signed(Pressure::LEAST, Pressure::MOST, self.0)
+        Pressure::LIMITS.contains_signed(self.0)
     }
 }
 
@@ -116,33 +90,28 @@ impl Pressure {
 #[derive(Clone, Copy)]
 pub struct Void(pub u64);
 
-#[derive(Clone, Copy)]
-pub enum TestedVoid {
-    Within(Void),
-    Outside,
+impl Quantity for Void {
+    ghost LIMITS = { void_limits };
+
+    const LIMITS: Limits = Limits {
+        least: 1,
+        most: Void::MOST,
+    };
 }
 
 impl Void {
     // A void ratio of 1.
     pub const ONE: u64 = 100_000_000;
 
-    pub const LEAST: u64 = 1;
-
     pub const MOST: u64 = 10 * Void::ONE;
 
-    pub fn within(n: u64) -> bool
-        ensures { result ≡ within void_limits n }
-    {
-        within(Void::LEAST, Void::MOST, n)
-    }
-
-    pub fn new(ratio: u64) -> TestedVoid
+    pub fn new(ratio: u64) -> Option<Void>
         ensures { result ≡ tested_void ratio }
     {
         if Void::within(ratio) {
-            TestedVoid::Within(Void(ratio))
+            Some(Void(ratio))
         } else {
-            TestedVoid::Outside
+            None
         }
     }
 }
@@ -151,30 +120,23 @@ impl Void {
 #[derive(Clone, Copy)]
 pub struct Clock(pub u64);
 
-#[derive(Clone, Copy)]
-pub enum TestedClock {
-    Within(Clock),
-    Outside,
+impl Quantity for Clock {
+    ghost LIMITS = { clock_limits };
+
+    const LIMITS: Limits = Limits {
+        least: 0,
+        most: 3_000_000_000,
+    };
 }
 
 impl Clock {
-    pub const LEAST: u64 = 0;
-
-    pub const MOST: u64 = 3_000_000_000;
-
-    pub fn within(n: u64) -> bool
-        ensures { result ≡ within clock_limits n }
-    {
-        within(Clock::LEAST, Clock::MOST, n)
-    }
-
-    pub fn new(seconds: u64) -> TestedClock
+    pub fn new(seconds: u64) -> Option<Clock>
         ensures { result ≡ tested_clock seconds }
     {
         if Clock::within(seconds) {
-            TestedClock::Within(Clock(seconds))
+            Some(Clock(seconds))
         } else {
-            TestedClock::Outside
+            None
         }
     }
 }
@@ -183,198 +145,168 @@ impl Clock {
 #[derive(Clone, Copy)]
 pub struct Conductivity(pub u64);
 
-impl Conductivity {
-    pub const LEAST: u64 = 1;
+impl Quantity for Conductivity {
+    ghost LIMITS = { conductivity_limits };
 
-    pub const MOST: u64 = 1_000_000_000;
-
-    pub fn within(n: u64) -> bool
-        ensures { result ≡ within conductivity_limits n }
-    {
-        within(Conductivity::LEAST, Conductivity::MOST, n)
-    }
+    const LIMITS: Limits = Limits {
+        least: 1,
+        most: 1_000_000_000,
+    };
 }
 
 // The solids height of an element in nanometres.
 #[derive(Clone, Copy)]
 pub struct Solids(pub u64);
 
+impl Quantity for Solids {
+    ghost LIMITS = { solids_limits };
+
+    const LIMITS: Limits = Limits {
+        least: 100_000,
+        most: Solids::MOST,
+    };
+}
+
 impl Solids {
-    pub const LEAST: u64 = 100_000;
-
     pub const MOST: u64 = 100_000_000;
-
-    pub fn within(n: u64) -> bool
-        ensures { result ≡ within solids_limits n }
-    {
-        within(Solids::LEAST, Solids::MOST, n)
-    }
 }
 
 // The water height of an element in nanometres.
 #[derive(Clone, Copy)]
 pub struct Water(pub u64);
 
-impl Water {
-    pub const LEAST: u64 = 0;
+impl Quantity for Water {
+    ghost LIMITS = { water_limits };
 
+    const LIMITS: Limits = Limits {
+        least: 0,
+        most: Water::MOST,
+    };
+}
+
+impl Water {
     // What the most solids hold at the greatest void ratio.
     pub const MOST: u64 = Solids::MOST * Void::MOST / Void::ONE;
-
-    pub fn within(n: u64) -> bool
-        ensures { result ≡ within water_limits n }
-    {
-        within(Water::LEAST, Water::MOST, n)
-    }
 }
 
 // The length of a step in seconds.
 #[derive(Clone, Copy)]
 pub struct Seconds(pub u64);
 
-impl Seconds {
-    pub const LEAST: u64 = 1;
+impl Quantity for Seconds {
+    ghost LIMITS = { step_limits };
 
-    pub const MOST: u64 = 1_000_000;
-
-    pub fn within(n: u64) -> bool
-        ensures { result ≡ within step_limits n }
-    {
-        within(Seconds::LEAST, Seconds::MOST, n)
-    }
+    const LIMITS: Limits = Limits {
+        least: 1,
+        most: 1_000_000,
+    };
 }
 
 // The most steps that a run may take.
 #[derive(Clone, Copy)]
 pub struct Budget(pub u64);
 
-impl Budget {
-    pub const LEAST: u64 = 0;
+impl Quantity for Budget {
+    ghost LIMITS = { budget_limits };
 
-    pub const MOST: u64 = 1_000_000;
-
-    pub fn within(n: u64) -> bool
-        ensures { result ≡ within budget_limits n }
-    {
-        within(Budget::LEAST, Budget::MOST, n)
-    }
+    const LIMITS: Limits = Limits {
+        least: 0,
+        most: 1_000_000,
+    };
 }
 
 // A specific gravity in thousandths.
 #[derive(Clone, Copy)]
 pub struct Gravity(pub u64);
 
-impl Gravity {
-    pub const LEAST: u64 = 1_000;
+impl Quantity for Gravity {
+    ghost LIMITS = { gravity_limits };
 
-    pub const MOST: u64 = 5_000;
-
-    pub fn within(n: u64) -> bool
-        ensures { result ≡ within gravity_limits n }
-    {
-        within(Gravity::LEAST, Gravity::MOST, n)
-    }
+    const LIMITS: Limits = Limits {
+        least: 1_000,
+        most: 5_000,
+    };
 }
 
 // How many elements a layer has.
 #[derive(Clone, Copy)]
 pub struct Elements(pub u64);
 
+impl Quantity for Elements {
+    ghost LIMITS = { element_limits };
+
+    const LIMITS: Limits = Limits {
+        least: 1,
+        most: Elements::MOST,
+    };
+}
+
 impl Elements {
-    pub const LEAST: u64 = 1;
-
     pub const MOST: u64 = 128;
-
-    pub fn within(n: u64) -> bool
-        ensures { result ≡ within element_limits n }
-    {
-        within(Elements::LEAST, Elements::MOST, n)
-    }
 }
 
 // How many points a curve has.
 #[derive(Clone, Copy)]
 pub struct CurvePoints(pub u64);
 
-impl CurvePoints {
-    pub const LEAST: u64 = 2;
+impl Quantity for CurvePoints {
+    ghost LIMITS = { curve_limits };
 
-    pub const MOST: u64 = 64;
-
-    pub fn within(n: u64) -> bool
-        ensures { result ≡ within curve_limits n }
-    {
-        within(CurvePoints::LEAST, CurvePoints::MOST, n)
-    }
+    const LIMITS: Limits = Limits { least: 2, most: 64 };
 }
 
 // How many points a load table has.
 #[derive(Clone, Copy)]
 pub struct TablePoints(pub u64);
 
-impl TablePoints {
-    pub const LEAST: u64 = 1;
+impl Quantity for TablePoints {
+    ghost LIMITS = { table_limits };
 
-    pub const MOST: u64 = 64;
-
-    pub fn within(n: u64) -> bool
-        ensures { result ≡ within table_limits n }
-    {
-        within(TablePoints::LEAST, TablePoints::MOST, n)
-    }
+    const LIMITS: Limits = Limits { least: 1, most: 64 };
 }
 
 // A byte that says no or yes.
 #[derive(Clone, Copy)]
 pub struct Flag(pub u64);
 
-impl Flag {
-    pub const LEAST: u64 = 0;
+impl Quantity for Flag {
+    ghost LIMITS = { flag_limits };
 
-    pub const MOST: u64 = 1;
-
-    pub fn within(n: u64) -> bool
-        ensures { result ≡ within flag_limits n }
-    {
-        within(Flag::LEAST, Flag::MOST, n)
-    }
+    const LIMITS: Limits = Limits { least: 0, most: 1 };
 }
 
 // Where the water of a layer comes from: 0 as given, 1 at rest, 2 given and steady.
 #[derive(Clone, Copy)]
 pub struct Start(pub u64);
 
+impl Quantity for Start {
+    ghost LIMITS = { start_limits };
+
+    const LIMITS: Limits = Limits { least: 0, most: 2 };
+}
+
 impl Start {
-    pub const LEAST: u64 = 0;
-
-    pub const MOST: u64 = 2;
-
     pub const REST: u64 = 1;
 
     pub const STEADY: u64 = 2;
-
-    pub fn within(n: u64) -> bool
-        ensures { result ≡ within start_limits n }
-    {
-        within(Start::LEAST, Start::MOST, n)
-    }
 }
 
 // All water of a layer as it was opened, in nanometres.
 #[derive(Clone, Copy)]
 pub struct StartingWater(pub u64);
 
-impl StartingWater {
-    pub const LEAST: u64 = 0;
+impl Quantity for StartingWater {
+    ghost LIMITS = { starting_water_limits };
 
+    const LIMITS: Limits = Limits {
+        least: 0,
+        most: StartingWater::MOST,
+    };
+}
+
+impl StartingWater {
     // The most water in as many elements as there can be.
     pub const MOST: u64 = Elements::MOST * Water::MOST;
-
-    pub fn within(n: u64) -> bool
-        ensures { result ≡ within starting_water_limits n }
-    {
-        within(StartingWater::LEAST, StartingWater::MOST, n)
-    }
 }
 
 // What has flowed out through an outer face since the opening, in nanometres.
@@ -395,42 +327,14 @@ impl Outflow {
     }
 }
 
-// The kinds of quantity that arrays hold. A field that must be 0 is a kind of its own.
+// A field that must be 0.
 #[derive(Clone, Copy)]
-pub enum Kind {
-    Stress,
-    Void,
-    Conductivity,
-    Time,
-    Solids,
-    Water,
-    Zero,
-}
+pub struct Zero(pub u64);
 
-impl Kind {
-    // Whether a number keeps the limits of the kind.
-    pub fn within(self, n: u64) -> bool
-        ensures { result ≡ within (limits_of self) n }
-    {
-        match self {
-            Kind::Stress => match Pressure::new(n) {
-                TestedPressure::Within(_) => true,
-                TestedPressure::Outside => false,
-            },
-            Kind::Void => match Void::new(n) {
-                TestedVoid::Within(_) => true,
-                TestedVoid::Outside => false,
-            },
-            Kind::Conductivity => Conductivity::within(n),
-            Kind::Time => match Clock::new(n) {
-                TestedClock::Within(_) => true,
-                TestedClock::Outside => false,
-            },
-            Kind::Solids => Solids::within(n),
-            Kind::Water => Water::within(n),
-            Kind::Zero => n == 0,
-        }
-    }
+impl Quantity for Zero {
+    ghost LIMITS = { zero_limits };
+
+    const LIMITS: Limits = Limits { least: 0, most: 0 };
 }
 
 // An outer face of the layer. A drained one holds a pressure.
@@ -438,11 +342,4 @@ impl Kind {
 pub enum Face {
     Closed,
     Drained(Pressure),
-}
-
-// What a curve gives at an abscissa: its ordinate, or nothing off the curve.
-#[derive(Clone, Copy)]
-pub enum CurveValue {
-    On(u64),
-    Off,
 }

@@ -12,7 +12,8 @@ use Rattle.numbers.specs.Interval.{Within}
 use Rattle.quantities.proofs.Limits.{pressure-within}
 use Rattle.quantities.specs.Quantities.{stress_limits}
 use Rattle.readings.specs.Conversion.{kilopascal, metre, most_pressure, most_column, pressure_in, conversion}
-use Rattle.readings.specs.declared.Converted.TheVariants.{Value, Outside}
+use Rattle.readings.specs.declared.Converted.TheVariants.{Value}
+use Rattle.std.specs.Prelude.{None, Some}
 use Rattle.readings.specs.declared.Exact.{Exact}
 use Rattle.quantities.specs.declared.Pressure.{Pressure}
 use Rattle.readings.specs.declared.Reading.{Reading}
@@ -20,7 +21,7 @@ use Rattle.readings.specs.declared.Reading.TheVariants as reading
 
 -- where a test passes the value is in range, and where it fails there is none
 tested : (most : ℕ) (test : Bool) (value : Exact) (held : Pressure) → (test ≡ true → Within held.0 most) →
-    Within (pressure_in (cond test (Value value held) Outside)) most
+    Within (pressure_in (cond test (Some (Value value held)) None)) most
 tested most true value held h = h refl
 tested most false value held h = record { bound = omega arith }
 

@@ -21,12 +21,11 @@ pub enum Reading {
 #[derive(Clone, Copy)]
 pub struct Exact(pub i64);
 
-// A reading in whole numbers: its exact value and the pressure that it is; missing; or refused, as it is not finite or too great.
+// A reading in whole numbers: its exact value and the pressure that it is; or missing.
 #[derive(Clone, Copy)]
 pub enum Converted {
     Value(Exact, Pressure),
     Missing,
-    Outside,
 }
 
 // Millipascals in a kilopascal.
@@ -35,35 +34,35 @@ const KILOPASCAL: u64 = 1_000_000;
 // Nanometres in a metre.
 const METRE: u64 = 1_000_000_000;
 
-// A pressure in kilopascals.
-pub fn of_pressure(x: f32) -> Converted
+// A pressure in kilopascals; none, if it is not finite or too great.
+pub fn of_pressure(x: f32) -> Option<Converted>
     ensures { result ≡ of_pressure (to_bits binary32 x) }
 {
     if !floats::at_most_2000(x) {
-        return Converted::Outside;
+        return None;
     }
     let millipascals = floats::in_units(x, KILOPASCAL);
-    Converted::Value(Exact(millipascals), Pressure(millipascals))
+    Some(Converted::Value(Exact(millipascals), Pressure(millipascals)))
 }
 
 // A water column in metres. It becomes a pressure as every head does, so it is cut twice.
-pub fn of_column(x: f32) -> Converted
+pub fn of_column(x: f32) -> Option<Converted>
     ensures { result ≡ of_column (to_bits binary32 x) }
 {
     if !floats::at_most_200(x) {
-        return Converted::Outside;
+        return None;
     }
     let nanometres = floats::in_units(x, METRE);
-    Converted::Value(Exact(nanometres), Head(nanometres).as_pressure())
+    Some(Converted::Value(Exact(nanometres), Head(nanometres).as_pressure()))
 }
 
-// Any reading.
-pub fn convert(reading: Reading) -> Converted
+// Any reading; none, if it is not finite or too great.
+pub fn convert(reading: Reading) -> Option<Converted>
     ensures { result ≡ conversion reading }
 {
     match reading {
         Reading::Pressure(x) => of_pressure(x),
         Reading::Column(x) => of_column(x),
-        Reading::Missing => Converted::Missing,
+        Reading::Missing => Some(Converted::Missing),
     }
 }

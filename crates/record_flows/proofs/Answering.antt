@@ -4,7 +4,7 @@ use lib.IntN.{ℤ, pos}
 use lib.ListN.{length, take, length-map}
 use lib.Seq.{take_at}
 use mathlib.Core.List.{List, []}
-use mathlib.Core.Option.{none, some}
+use Rattle.std.specs.Prelude.{None, Some}
 use mathlib.Core.Path.{◌≡◌, refl, sym, ap, subst, ◌∙◌}
 use native.Mathlib.Omega.{arith}
 use Rattle.laws.specs.Divisions.{DividesAtEach}
@@ -14,8 +14,7 @@ use Rattle.record_flows.proofs.LayerFaces.{faces_count, entry_most, layer_divide
 use Rattle.record_flows.proofs.Moving.{Taken, done_taken, moves}
 use Rattle.record_flows.specs.Dividing.{Dividing, entered, dividing}
 use Rattle.record_flows.specs.Entries.{MovesJust, EntriesOf, LongDivision}
-use Rattle.record_flows.specs.declared.Divided.{Divided}
-use Rattle.record_flows.specs.declared.Divided.TheVariants as divided
+use Rattle.std.specs.Prelude.{Result, Ok, Err}
 use Rattle.rules.specs.Calls.{called}
 use Rattle.rules.specs.Division.{layer_faces, face_flows, face_remainders}
 use Rattle.rules.specs.Outcome.{refusal_of}
@@ -28,24 +27,24 @@ use Rattle.rules.specs.declared.record.Record.{Record}
 
 module _ (r : Record) (t : ℕ) (flows remainders : List ℤ) where
   refused_with : Refusal → Dividing
-  refused_with cause = record { answer = divided.Refused cause; flows = flows; remainders = remainders }
+  refused_with cause = record { answer = Err cause; flows = flows; remainders = remainders }
 
   by : Answer → Dividing
-  by answer = elim (refusal_of answer) [ some cause ↦ refused_with cause | none ↦ entered r t flows remainders ]
+  by answer = elim (refusal_of answer) [ Some cause ↦ refused_with cause | None ↦ entered r t flows remainders ]
 
   dividing_done : (called r (Step t)).answer ≡ Done → dividing r t flows remainders ≡ entered r t flows remainders
   unfolding dividing by refused_with refusal_of
   dividing_done e = ap by e
 
   dividing-refused : (cause : Refusal) → (called r (Step t)).answer ≡ Refused cause →
-      dividing r t flows remainders ≡ record { answer = divided.Refused cause; flows = flows; remainders = remainders }
+      dividing r t flows remainders ≡ record { answer = Err cause; flows = flows; remainders = remainders }
   unfolding dividing by refused_with refusal_of
   dividing-refused cause e = ap by e
 
   -- how many entries an answer tells
-  abbrev told : Divided → ℕ
-  told (divided.Entries n) = n
-  told (divided.Refused cause) = 0
+  abbrev told : Result ℕ Refusal → ℕ
+  told (Ok n) = n
+  told (Err cause) = 0
 
   abbrev faces : ℕ
   faces = length (layer_faces (record_site r) (record_state r))
@@ -79,40 +78,40 @@ module _ (r : Record) (t : ℕ) (flows remainders : List ℤ) where
   }
 
   -- what the call promises of its answer and of both buffers after it
-  abbrev pub Answers : Divided → (f m : List ℤ) → Type 0
+  abbrev pub Answers : Result ℕ Refusal → (f m : List ℤ) → Type 0
   Answers answer f m =
       (answer ≡ (dividing r t flows remainders).answer) × ((f ≡ (dividing r t flows remainders).flows) ×
       ((m ≡ (dividing r t flows remainders).remainders) × LongDivision r t answer f m))
 
   -- what is promised of a call that is accepted, and of one that is refused
   long_division : Taken r t → {n : ℕ} {f m : List ℤ} → n ≡ faces → f ≡ overlaid (face_flows (record_site r) (record_state r) t) flows →
-      m ≡ overlaid (face_remainders (record_site r) (record_state r) t) remainders → LongDivision r t (divided.Entries n) f m
+      m ≡ overlaid (face_remainders (record_site r) (record_state r) t) remainders → LongDivision r t (Ok n) f m
   long_division taken {n} count f-is m-is k e =
       let same : k ≡ faces = sym (ap told e) ∙ count in
       rw (same, f-is, m-is) (entries_of taken)
 
-  no_entries : (cause : Refusal) {f m : List ℤ} → LongDivision r t (divided.Refused cause) f m
+  no_entries : (cause : Refusal) {f m : List ℤ} → LongDivision r t (Err cause) f m
   no_entries cause k e = let differ : ◌≡◌ {A = ℕ} 0 1 = ap number e in absurd (omega arith)
     where
-      number : Divided → ℕ
-      number (divided.Entries n) = 1
-      number (divided.Refused cause) = 0
+      number : Result ℕ Refusal → ℕ
+      number (Ok n) = 1
+      number (Err cause) = 0
 
   -- the call by the step's answer, with what it leaves in both buffers
   pub accepted : (called r (Step t)).answer ≡ Done → Taken r t → {n : ℕ} {f m : List ℤ} → n ≡ faces →
       f ≡ overlaid (face_flows (record_site r) (record_state r) t) flows → m ≡ overlaid (face_remainders (record_site r) (record_state r) t) remainders →
-      Answers (divided.Entries n) f m
+      Answers (Ok n) f m
   unfolding entered
   accepted done taken count f-is m-is =
       let is = dividing_done done in (
-        ap divided.Entries count ∙ sym (ap (λ (d : Dividing). d.answer) is),
+        ap Ok count ∙ sym (ap (λ (d : Dividing). d.answer) is),
         (
           f-is ∙ sym (ap (λ (d : Dividing). d.flows) is),
           (m-is ∙ sym (ap (λ (d : Dividing). d.remainders) is), long_division taken count f-is m-is),
         ),
       )
 
-  pub refused : (cause : Refusal) → (called r (Step t)).answer ≡ Refused cause → Answers (divided.Refused cause) flows remainders
+  pub refused : (cause : Refusal) → (called r (Step t)).answer ≡ Refused cause → Answers (Err cause) flows remainders
   refused cause e =
       let is = dividing-refused cause e in (
         sym (ap (λ (d : Dividing). d.answer) is),

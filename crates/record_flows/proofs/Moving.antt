@@ -4,7 +4,7 @@ use lib.IntN.{ℤ, pos, ◌+ℤ◌, ◌-ℤ◌}
 use lib.ListN.{length}
 use mathlib.Core.Bool.{Bool, true, false}
 use mathlib.Core.List.{List, [], ◌∷◌}
-use mathlib.Core.Option.{Option, none, some}
+use Rattle.std.specs.Prelude.{Option, None, Some}
 use mathlib.Core.Path.{◌≡◌, refl, sym, ap, subst, ◌∙◌}
 use native.Mathlib.Omega.{arith}
 use Rattle.claims.proofs.Fixed.{state_after}
@@ -45,7 +45,7 @@ kind (Refused cause) = 2
 module _ (r : Record) (t : ℕ) where
   pub record Taken : Type 0 where
     pub is : is_layer r ≡ true
-    pub free : step_refusal (record_site r) (record_state r) t ≡ none
+    pub free : step_refusal (record_site r) (record_state r) t ≡ None
 
   by_answer : (P : Answer → Type 0) → ((cause : Refusal) → P (Refused cause)) → (Taken → P Done) → P (called r (Step t)).answer
   by_answer P otherwise done = go (is_layer r) refl
@@ -54,8 +54,8 @@ module _ (r : Record) (t : ℕ) where
       here e p = subst (λ (a : Answered). P a.answer) (sym e) p
 
       free : is_layer r ≡ true → (cause : Option Refusal) → step_refusal (record_site r) (record_state r) t ≡ cause → P (called r (Step t)).answer
-      free is (some cause) e = here (refused_on_layer r (Step t) cause is (by_refusal (record_site r) (record_state r) t (some cause) e)) (otherwise cause)
-      free is none e = here (on_layer r (Step t) _ is (by_refusal (record_site r) (record_state r) t none e)) (done (record { is = is; free = e }))
+      free is (Some cause) e = here (refused_on_layer r (Step t) cause is (by_refusal (record_site r) (record_state r) t (Some cause) e)) (otherwise cause)
+      free is None e = here (on_layer r (Step t) _ is (by_refusal (record_site r) (record_state r) t None e)) (done (record { is = is; free = e }))
 
       go : (b : Bool) → is_layer r ≡ b → P (called r (Step t)).answer
       go false e = here (not_layer r (Step t) e) (otherwise NoLayer)
@@ -77,7 +77,7 @@ module _ (r : Record) (t : ℕ) where
 
   module _ (taken : Taken) where
     after_is : called r (Step t) ≡ record { answer = Done; after = with_events r (step_taken t ∷ []) }
-    after_is = on_layer r (Step t) _ taken.is (by_refusal (record_site r) (record_state r) t none taken.free)
+    after_is = on_layer r (Step t) _ taken.is (by_refusal (record_site r) (record_state r) t None taken.free)
 
     -- it is no longer than the longest
     pub short : t ≤ step_limits.most

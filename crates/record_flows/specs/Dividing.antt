@@ -1,10 +1,10 @@
 -- The call that gives flows with what the division left, on any record.
 use Rattle.std.specs.Prelude.{ℕ, ℤ, length, List}
-use Rattle.std.proofs.Math.Option.{none, some}
+use Rattle.std.specs.Prelude.{None, Some}
 use Rattle.numbers.specs.Arrays.{overlaid}
 use Rattle.open_faces.specs.Faces.{face_count}
-use Rattle.record_flows.specs.declared.Divided.{Divided}
-use Rattle.record_flows.specs.declared.Divided.TheVariants.{Entries, Refused}
+use Rattle.rules.specs.declared.answers.Refusal.{Refusal}
+use Rattle.std.specs.Prelude.{Result, Ok, Err}
 use Rattle.rules.specs.Calls.{called}
 use Rattle.rules.specs.Division.{layer_faces, face_flows, face_remainders}
 use Rattle.rules.specs.Outcome.{refusal_of}
@@ -18,7 +18,7 @@ entry_count r = face_count r.layer.frame.elements r.layer.frame.top r.layer.fram
 
 -- what it answers, and both buffers after it
 pub record Dividing : Type 0 where
-  pub answer : Divided
+  pub answer : Result ℕ Refusal
   pub flows : List ℤ
   pub remainders : List ℤ
 
@@ -26,7 +26,7 @@ pub record Dividing : Type 0 where
 unfoldable pub entered : Record → (t : ℕ) (flows remainders : List ℤ) → Dividing
 unfolding layer_faces face_flows face_remainders record_site record_state overlaid
 entered r t flows remainders = record {
-  answer = Entries (length (layer_faces (record_site r) (record_state r)));
+  answer = Ok (length (layer_faces (record_site r) (record_state r)));
   flows = overlaid (face_flows (record_site r) (record_state r) t) flows;
   remainders = overlaid (face_remainders (record_site r) (record_state r) t) remainders;
 }
@@ -36,6 +36,6 @@ unfoldable pub dividing : Record → (t : ℕ) (flows remainders : List ℤ) →
 unfolding called refusal_of entered
 dividing r t flows remainders =
     elim (refusal_of (called r (Step t)).answer) [
-      | some cause ↦ record { answer = Refused cause; flows = flows; remainders = remainders }
-      | none ↦ entered r t flows remainders
+      | Some cause ↦ record { answer = Err cause; flows = flows; remainders = remainders }
+      | None ↦ entered r t flows remainders
     ]

@@ -2,8 +2,8 @@
 use Rattle.std.specs.Prelude.{ℕ, ◌+◌, ℤ, pos, ◌+ℤ◌, ◌-ℤ◌, length, take, List, ◌≡◌}
 use Rattle.laws.specs.Divisions.{DividesAtEach, all_upward}
 use Rattle.numbers.specs.Lists.{paired, first_or, last_or}
-use Rattle.record_flows.specs.declared.Divided.{Divided}
-use Rattle.record_flows.specs.declared.Divided.TheVariants.{Entries}
+use Rattle.rules.specs.declared.answers.Refusal.{Refusal}
+use Rattle.std.specs.Prelude.{Result, Ok}
 use Rattle.rules.specs.Calls.{called}
 use Rattle.rules.specs.Division.{layer_faces}
 use Rattle.rules.specs.Record.{record_site, record_state}
@@ -32,5 +32,5 @@ pub record EntriesOf (r : Record) (t n : ℕ) (flows remainders : List ℤ) : Ty
   pub divides : DividesAtEach t (layer_faces (record_site r) (record_state r)) flows remainders
   pub moves_just : MovesJust r t (take n flows)
 
-abbrev pub LongDivision : Record → (t : ℕ) → Divided → (flows remainders : List ℤ) → Type 0
-LongDivision r t answer flows remainders = (n : ℕ) → answer ≡ Entries n → EntriesOf r t n flows remainders
+abbrev pub LongDivision : Record → (t : ℕ) → Result ℕ Refusal → (flows remainders : List ℤ) → Type 0
+LongDivision r t answer flows remainders = (n : ℕ) → answer ≡ Ok n → EntriesOf r t n flows remainders

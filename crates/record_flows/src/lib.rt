@@ -14,13 +14,6 @@ use lent_step::reading;
 use rules::answers::{Answer, Refusal};
 use rules::record::Record;
 
-// What the call answers: how many faces have an entry, or a refusal.
-#[derive(Clone, Copy)]
-pub enum Divided {
-    Entries(usize),
-    Refused(Refusal),
-}
-
 // The flows and remainders of a layer, in the first places of two arrays, and how many there are.
 pub fn divide_layer(r: Record, t: u64, flows: &mut [i64], remainders: &mut [i64]) -> usize
     requires r_value { is_layer r ≡ true }
@@ -62,7 +55,12 @@ pub fn divide_layer(r: Record, t: u64, flows: &mut [i64], remainders: &mut [i64]
 
 // The flows and remainders of t seconds on any record, from the bottom up in the first places of two buffers, which have room for them
 // where it is a layer; refused as that step is, and then both buffers are as they were.
-pub fn divide_into(r: Record, t: u64, flows: &mut [i64], remainders: &mut [i64]) -> Divided
+pub fn divide_into(
+    r: Record,
+    t: u64,
+    flows: &mut [i64],
+    remainders: &mut [i64],
+) -> Result<usize, Refusal>
     requires { (is_layer r ≡ true → entry_count r ≤ length flows.old) × (is_layer r ≡ true → entry_count r ≤ length remainders.old) }
     ensures value { result ≡ (dividing r t flows.old remainders.old).answer }
     ensures flows_after { flows.new ≡ (dividing r t flows.old remainders.old).flows }
@@ -72,14 +70,19 @@ pub fn divide_into(r: Record, t: u64, flows: &mut [i64], remainders: &mut [i64])
     let stepped = step::take_step(r, t);
     let answer = stepped.answer;
     match answer {
-        Answer::Done => Divided::Entries(divide_layer(r, t, flows, remainders)),
-        Answer::Ran(_, _) => Divided::Entries(0),
-        Answer::Refused(cause) => Divided::Refused(cause),
+        Answer::Done => Ok(divide_layer(r, t, flows, remainders)),
+        Answer::Ran(_, _) => Ok(0),
+        Answer::Refused(cause) => Err(cause),
     }
 }
 
 // The same with two arrays, which have room for the entries of any layer. What it requires is what their type says.
-pub fn divide(r: Record, t: u64, flows: &mut [i64; 129], remainders: &mut [i64; 129]) -> Divided
+pub fn divide(
+    r: Record,
+    t: u64,
+    flows: &mut [i64; 129],
+    remainders: &mut [i64; 129],
+) -> Result<usize, Refusal>
     requires { (length flows.old ≡ 129) × (length remainders.old ≡ 129) }
     ensures value { result ≡ (dividing r t flows.old remainders.old).answer }
     ensures flows_after { flows.new ≡ (dividing r t flows.old remainders.old).flows }

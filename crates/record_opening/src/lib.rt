@@ -9,7 +9,6 @@ ghost use Rattle.rules.specs.Record.{record_of};
 ghost use Rattle.rules.specs.declared.answers.Answer.TheVariants.{Done};
 
 use acceptance::record;
-use opening::Opened;
 use quantities::{Face, Head};
 use rules::answers::{Answer, Answered, Refusal};
 use rules::record::{CurveCounts, Frame, Layer, Record, Soil};
@@ -97,18 +96,18 @@ pub fn open(job: &[u8]) -> Answered
         &mut burden,
     );
     match opened {
-        Opened::Refused(cause) => refused(cause),
-        Opened::Accepted(header, frame, progress) => done(
+        Err(cause) => refused(cause),
+        Ok(opened) => done(
             Soil {
-                counts: record::curve_counts(header),
+                counts: record::curve_counts(opened.header),
                 compressibility_void,
                 compressibility_stress,
                 conductivity_void,
                 conductivity,
             },
             Layer {
-                frame,
-                progress,
+                frame: opened.frame,
+                progress: opened.progress,
                 solids,
                 water,
                 table_time,

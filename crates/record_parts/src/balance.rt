@@ -14,13 +14,7 @@ pub fn total_water(elements: usize, water: &[u64; 128]) -> u64
     requires by_index { (j : ℕ) → j < elements → get_or water.now j 0 ≤ water_limits.most }
     ensures { (result ≡ sum (first_places elements water.now)) × (result ≤ starting_water_limits.most) }
 {
-    let mut total: u64 = 0;
-    let mut j: usize = 0;
-    while j < elements {
-        total += water[j];
-        j += 1;
-    }
-    total
+    water[..elements].iter().sum()
 }
 
 // The water that is gone: the settlement, where solids stay.

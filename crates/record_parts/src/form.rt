@@ -3,7 +3,7 @@ ghost use Rattle.std.specs.Prelude.{◌≡◌};
 ghost use Rattle.rules.specs.Job.{header_sound};
 ghost use Rattle.rules.specs.Record.{form_sound};
 
-use quantities::{CurvePoints, Elements, Flag, Gravity, Start, TablePoints};
+use quantities::{CurvePoints, Elements, Flag, Gravity, Quantity, Start, TablePoints};
 use rules::job::Header;
 
 // Whether the numbers of a job's bytes 5 to 13 keep their limits.

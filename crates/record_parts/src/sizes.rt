@@ -3,25 +3,18 @@ ghost use Rattle.std.specs.Prelude.{◌≡◌, ◌≤◌};
 ghost use Rattle.numbers.specs.Arrays.{first_places};
 ghost use Rattle.numbers.specs.Lists.{all};
 ghost use Rattle.rules.specs.Layer.{Site};
-ghost use Rattle.quantities.specs.Quantities.{within, element_limits, limits_of};
+ghost use Rattle.quantities.specs.Quantities.{within, element_limits};
 ghost use Rattle.rules.specs.Record.{heights_sound, sizes_sound};
 
 use crate::faces;
-use quantities::{Face, Head, Kind};
+use quantities::{Face, Head, Quantity, Solids, Water};
 
-// Whether the first numbers keep the limits of a kind.
-pub fn all_within(elements: usize, kind: Kind, numbers: &[u64; 128]) -> bool
+// Whether the first numbers keep the limits of a kind, Q.
+pub fn all_within<Q: Quantity>(elements: usize, numbers: &[u64; 128]) -> bool
     requires { elements ≤ element_limits.most }
-    ensures { result ≡ all (within (limits_of kind)) (first_places elements numbers.now) }
+    ensures { result ≡ all (within Q.LIMITS) (first_places elements numbers.now) }
 {
-    let mut j: usize = 0;
-    while j < elements {
-        if !kind.within(numbers[j]) {
-            return false;
-        }
-        j += 1;
-    }
-    true
+    numbers[..elements].iter().all(|number| Q::within(*number))
 }
 
 // Whether the solids and the water of the first elements keep their limits.
@@ -29,7 +22,7 @@ pub fn heights_sound<'a>(elements: usize, solids: &'a [u64; 128], water: &'a [u6
     requires { elements ≤ element_limits.most }
     ensures { result ≡ heights_sound (first_places elements solids.now) (first_places elements water.now) }
 {
-    all_within(elements, Kind::Solids, solids) & all_within(elements, Kind::Water, water)
+    all_within::<Solids>(elements, solids) & all_within::<Water>(elements, water)
 }
 
 // Whether levels, solids and water keep their limits, and a closed bottom has level 0.

@@ -4,7 +4,7 @@ use native.Mathlib.Omega.{arith}
 use lib.Ieee.{binary32, to_bits}
 use lib.IntN.{ℤ}
 use mathlib.Core.Bool.{Bool, true, false, cond}
-use mathlib.Core.Option.{Option, none, some}
+use Rattle.std.specs.Prelude.{Option, None, Some}
 use mathlib.Core.Path.{◌≡◌, refl, sym, ap, ◌∙◌}
 use Rattle.floats.specs.Binary32.{at_most, in_units}
 use Rattle.pore.specs.Pore.{element_pore}
@@ -17,7 +17,8 @@ use Rattle.readings.specs.declared.Reading.{Reading}
 use Rattle.readings.specs.declared.Reading.TheVariants as reading
 use Rattle.record_reading.specs.Comparison.{against, element_refusal, compared}
 use Rattle.record_reading.specs.declared.Compared.{Compared}
-use Rattle.record_reading.specs.declared.Compared.TheVariants.{Difference, Missing, Refused}
+use Rattle.record_reading.specs.declared.Compared.TheVariants.{Difference, Missing}
+use Rattle.std.specs.Prelude.{Result, Ok, Err}
 use Rattle.rules.specs.Record.{is_layer}
 use Rattle.rules.specs.Refusals.{first_cause}
 use Rattle.rules.specs.declared.answers.Refusal.{Refusal}
@@ -26,41 +27,41 @@ use Rattle.rules.specs.declared.record.Record.{Record}
 
 module _ (r : Record) (element : ℕ) (reading : Reading) where
   by_refusal : (cause : Option Refusal) → element_refusal r element ≡ cause →
-      compared r element reading ≡ elim cause [ some cause ↦ Refused cause | none ↦ against (element_pore r (element - 1)) (conversion reading) ]
+      compared r element reading ≡ elim cause [ Some cause ↦ Err cause | None ↦ against (element_pore r (element - 1)) (conversion reading) ]
   unfolding compared
   by_refusal cause e =
-      ap (λ (c : Option Refusal). elim c as (λ _. Compared) [
-        | some x ↦ Refused x
-        | none ↦ against (element_pore r (element - 1)) (conversion reading)
+      ap (λ (c : Option Refusal). elim c as (λ _. Result Compared Refusal) [
+        | Some x ↦ Err x
+        | None ↦ against (element_pore r (element - 1)) (conversion reading)
       ]) e
 
   -- cause 11 comes first
-  pub no_layer : is_layer r ≡ false → compared r element reading ≡ Refused NoLayer
+  pub no_layer : is_layer r ≡ false → compared r element reading ≡ Err NoLayer
   unfolding element_refusal first_cause
-  no_layer e = by_refusal (some NoLayer) (rw e)
+  no_layer e = by_refusal (Some NoLayer) (rw e)
 
   module _ (is : is_layer r ≡ true) where
     -- then 19
-    pub no_element : within (from 1 to r.layer.frame.elements) element ≡ false → compared r element reading ≡ Refused ElementOutside
+    pub no_element : within (from 1 to r.layer.frame.elements) element ≡ false → compared r element reading ≡ Err ElementOutside
     unfolding element_refusal first_cause
-    no_element e = by_refusal (some ElementOutside) (rw (is, e))
+    no_element e = by_refusal (Some ElementOutside) (rw (is, e))
 
     pub taken : within (from 1 to r.layer.frame.elements) element ≡ true →
         compared r element reading ≡ against (element_pore r (element - 1)) (conversion reading)
     unfolding element_refusal first_cause
-    taken e = by_refusal none (rw (is, e))
+    taken e = by_refusal None (rw (is, e))
 
 -- ---- "missing" exactly for a missing reading
 
 -- 1 for an answer that says so
-abbrev is_missing : Compared → ℕ
-is_missing (Difference exact pore difference) = 0
-is_missing (Missing pore) = 1
-is_missing (Refused cause) = 0
+abbrev is_missing : Result Compared Refusal → ℕ
+is_missing (Ok (Difference exact pore difference)) = 0
+is_missing (Ok (Missing pore)) = 1
+is_missing (Err cause) = 0
 
 -- a float's reading is none
 not_missing : (pore : ℤ) (test : Bool) (value : Exact) (held : Pressure) →
-    is_missing (against pore (cond test (converted.Value value held) converted.Outside)) ≡ 0
+    is_missing (against pore (cond test (Some (converted.Value value held)) None)) ≡ 0
 not_missing pore true value held = refl
 not_missing pore false value held = refl
 
@@ -80,13 +81,13 @@ missing_converted pore reading.Missing e = refl
 module _ (r : Record) (element : ℕ) where
   -- a missing reading of an element of a layer is answered so
   pub missing_told : is_layer r ≡ true → within (from 1 to r.layer.frame.elements) element ≡ true →
-      compared r element reading.Missing ≡ Missing (pressure (element_pore r (element - 1)))
+      compared r element reading.Missing ≡ Ok (Missing (pressure (element_pore r (element - 1))))
   missing_told is e = taken r element reading.Missing is e
 
   -- and no other
-  pub missing_only : (x : Reading) (pore : Pressure) → compared r element x ≡ Missing pore → x ≡ reading.Missing
+  pub missing_only : (x : Reading) (pore : Pressure) → compared r element x ≡ Ok (Missing pore) → x ≡ reading.Missing
   missing_only x pore e = go (element_refusal r element) refl
     where
       go : (cause : Option Refusal) → element_refusal r element ≡ cause → x ≡ reading.Missing
-      go (some cause) k = let z : ◌≡◌ {A = ℕ} 0 1 = ap is_missing (sym (by_refusal r element x (some cause) k) ∙ e) in absurd (omega arith)
-      go none k = missing_converted (element_pore r (element - 1)) x (ap is_missing (sym (by_refusal r element x none k) ∙ e))
+      go (Some cause) k = let z : ◌≡◌ {A = ℕ} 0 1 = ap is_missing (sym (by_refusal r element x (Some cause) k) ∙ e) in absurd (omega arith)
+      go None k = missing_converted (element_pore r (element - 1)) x (ap is_missing (sym (by_refusal r element x None k) ∙ e))

@@ -8,9 +8,9 @@ use mathlib.Core.Logic.{⊎_elim}
 use mathlib.Core.Path.{◌≡◌, refl, ap, ◌∙◌}
 use Rattle.claims.proofs.Opened.{opening_either}
 use Rattle.numbers.specs.Arrays.{tabulate, overlaid}
-use Rattle.numbers.proofs.Filled.{length-tabulate}
+use Rattle.numbers.proofs.Filled.{length-tabulate, tabulate_more}
 use Rattle.replay.specs.Replaying.{replay_on, written_on, replay_opened, replaying}
-use Rattle.replay.proofs.WordLaws.{tabulate_more, sets_overlaid, words_more, words_length}
+use Rattle.replay.proofs.WordLaws.{sets_overlaid, words_more, words_length}
 use Rattle.replay.specs.Words.{call_at, call_count, calls_in, answer_words, all_words}
 use Rattle.rules.specs.Calls.{called, replayed}
 use Rattle.rules.specs.Opening.{refused_opening, opening}

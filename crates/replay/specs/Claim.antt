@@ -1,6 +1,6 @@
 -- Term 3's claim of a replay.
 use Rattle.std.specs.Prelude.{ℕ, List, ◌≡◌}
-use Rattle.std.proofs.Math.Option.{some}
+use Rattle.std.specs.Prelude.{Some}
 use Rattle.claims.specs.Term3.{Term3}
 use Rattle.numbers.specs.Arrays.{overlaid}
 use Rattle.replay.specs.Words.{calls_in, all_words}
@@ -15,7 +15,7 @@ pub record Claim (job words slice : List ℕ) (after : Record) (out : List ℕ) 
   pub answers : List Answer
   pub written : out ≡ overlaid (all_words answers) slice
   pub water : List ℕ
-  pub starts : description_water (described job) ≡ some water
+  pub starts : description_water (described job) ≡ Some water
   pub holds :
       let site = job_site (described job) in
       Term3 site (begun site water) (course site (calls_in words slice) (begun site water)) answers after

@@ -1,6 +1,6 @@
 -- A replay: a job opened, calls made one after the other on its record, and every answer written to a slice.
 use Rattle.std.specs.Prelude.{ℕ, List}
-use Rattle.std.proofs.Math.Option.{none, some}
+use Rattle.std.specs.Prelude.{None, Some}
 use Rattle.numbers.specs.Arrays.{overlaid}
 use Rattle.replay.specs.Words.{calls_in, all_words}
 use Rattle.rules.specs.Calls.{Replay, replayed}
@@ -30,8 +30,8 @@ unfoldable pub replay_opened : (opened : Answered) (words slice : List ℕ) → 
 unfolding refusal_of refused_opening replay_on written_on
 replay_opened opened words slice =
     elim (refusal_of opened.answer) [
-      | some cause ↦ record { given = refused_opening cause; slice = slice }
-      | none ↦ record {
+      | Some cause ↦ record { given = refused_opening cause; slice = slice }
+      | None ↦ record {
         given = record { answer = Done; after = (replay_on opened.after words slice).after };
         slice = written_on opened.after words slice;
       }

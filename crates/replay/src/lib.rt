@@ -16,6 +16,7 @@ use rules::record::Record;
 pub mod words;
 
 // A call by its kind: 0 a load, 1 a step, any other a run to an end with a budget.
+#[tactic(auto, unfolding(crate::specs::Words::call_of))]
 pub fn make_call(layer: Record, kind: u64, a: u64, b: u64) -> Answered
     ensures { result ≡ called layer (call_of kind a b) }
 {
@@ -34,6 +35,7 @@ fn call_count(words: usize, room: usize) -> usize
 }
 
 // Makes call i on a record, and writes its answer to its place.
+#[tactic(auto, unfolding(crate::specs::Words::call_at))]
 fn replay_call(layer: Record, i: usize, calls: &[u64], answers: &mut [u64]) -> Record
     requires { (3 * i + 3 ≤ length calls.now) × (3 * i + 3 ≤ length answers.old) }
     ensures value { result ≡ (called layer (call_at calls.now i)).after }
@@ -54,10 +56,8 @@ pub fn replay_calls(layer: Record, calls: &[u64], answers: &mut [u64]) -> Record
 {
     let count = call_count(calls.len(), answers.len());
     let mut after = layer;
-    let mut i = 0;
-    while i < count {
+    for i in 0..count {
         after = replay_call(after, i, calls, answers);
-        i += 1;
     }
     after
 }

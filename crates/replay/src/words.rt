@@ -6,6 +6,7 @@ ghost use Rattle.rules.specs.Outcome.{answer_numbers};
 
 use rules::answers::Answer;
 
+#[tactic(auto, unfolding(rules::specs::Outcome::answer_numbers))]
 pub fn answer_stop(answer: Answer) -> u64
     ensures { result ≡ (answer_numbers answer).stop }
 {
@@ -16,6 +17,7 @@ pub fn answer_stop(answer: Answer) -> u64
     }
 }
 
+#[tactic(auto, unfolding(rules::specs::Outcome::answer_numbers))]
 pub fn answer_steps(answer: Answer) -> u64
     ensures { result ≡ (answer_numbers answer).steps }
 {
@@ -27,6 +29,7 @@ pub fn answer_steps(answer: Answer) -> u64
 }
 
 // Writes an answer's words from a place on.
+#[tactic(auto, unfolding(rules::specs::Outcome::answer_number))]
 pub fn write_answer(answer: Answer, at: usize, answers: &mut [u64])
     requires { at + 3 ≤ length answers.old }
     ensures { answers.new ≡ sets answers.old at (answer_words answer) }

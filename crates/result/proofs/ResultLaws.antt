@@ -7,7 +7,7 @@ use lib.ListN.{length, length-append}
 use lib.Seq.{sets}
 use mathlib.Core.Bool.{true, false}
 use mathlib.Core.List.{List, ◌++◌}
-use mathlib.Core.Option.{Option, none, some}
+use Rattle.std.specs.Prelude.{Option, None, Some}
 use mathlib.Core.Path.{◌≡◌, refl, sym, ap, ◌∙◌}
 use Rattle.claims.proofs.After.{height_parts}
 use Rattle.encoding.proofs.Stores.{sets_then, sets_front}
@@ -113,39 +113,39 @@ module _ (r : Record) where
 -- ---- the refusals
 
 module _ (r : Record) (room : ℕ) (is : is_layer r ≡ true) where
-  pub refused_for_room : room < result_size r.layer.frame.elements → result_refusal r room ≡ some ShortBuffer
+  pub refused_for_room : room < result_size r.layer.frame.elements → result_refusal r room ≡ Some ShortBuffer
   unfolding result_refusal first_cause
   refused_for_room h = rw (is, lt-ltb room (result_size r.layer.frame.elements) h)
 
-  pub not_refused : result_size r.layer.frame.elements ≤ room → result_refusal r room ≡ none
+  pub not_refused : result_size r.layer.frame.elements ≤ room → result_refusal r room ≡ None
   unfolding result_refusal first_cause
   not_refused h = rw (is, le-ltb room (result_size r.layer.frame.elements) h)
 
 module _ (r : Record) (stop : Stop) (steps : ℕ) (buffer : List ℕ) where
   by_refusal : (cause : Option Refusal) → result_refusal r (length buffer) ≡ cause →
       result r stop steps buffer ≡ elim cause [
-        | some cause ↦ refused_result cause buffer
-        | none ↦ record { number = 0; buffer = overlaid (result_bytes r stop steps) buffer }
+        | Some cause ↦ refused_result cause buffer
+        | None ↦ record { number = 0; buffer = overlaid (result_bytes r stop steps) buffer }
       ]
   unfolding result
   by_refusal cause e =
       ap (λ (c : Option Refusal). elim c as (λ _. Returned) [
-        | some x ↦ refused_result x buffer
-        | none ↦ record { number = 0; buffer = overlaid (result_bytes r stop steps) buffer }
+        | Some x ↦ refused_result x buffer
+        | None ↦ record { number = 0; buffer = overlaid (result_bytes r stop steps) buffer }
       ]) e
 
   -- cause 11 comes first
   pub no_layer : is_layer r ≡ false → result r stop steps buffer ≡ refused_result NoLayer buffer
   unfolding result_refusal first_cause
-  no_layer e = by_refusal (some NoLayer) (rw e)
+  no_layer e = by_refusal (Some NoLayer) (rw e)
 
   -- then 10
   pub short_buffer : is_layer r ≡ true → length buffer < result_size r.layer.frame.elements → result r stop steps buffer ≡ refused_result ShortBuffer buffer
-  short_buffer is h = by_refusal (some ShortBuffer) (refused_for_room r (length buffer) is h)
+  short_buffer is h = by_refusal (Some ShortBuffer) (refused_for_room r (length buffer) is h)
 
   pub result_written : is_layer r ≡ true → result_size r.layer.frame.elements ≤ length buffer →
       result r stop steps buffer ≡ record { number = 0; buffer = overlaid (result_bytes r stop steps) buffer }
-  result_written is h = by_refusal none (not_refused r (length buffer) is h)
+  result_written is h = by_refusal None (not_refused r (length buffer) is h)
 
 -- ---- what is returned and left, by an equation
 

@@ -139,7 +139,3 @@ module _ (soil : Skeleton) (level load : ℤ) where
             first_elements_length,
           )
           refl
-
-      -- all elements, once the last is stored
-      pub elements_done : (l out : List ℕ) (n : ℕ) → out ≡ sets l 56 (first_elements j) → j ≡ n → out ≡ sets l 56 (first_elements n)
-      elements_done l out n stored end = rw (← end) stored

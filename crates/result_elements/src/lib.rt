@@ -147,8 +147,7 @@ pub fn write_elements<'a>(
     ensures { out.new ≡ sets out.old 56 (elements_bytes (skeleton_of (points skeleton.points void.now stress.now)) top_level.0 load.0 0 (first_places elements burden.now) (first_places elements solids.now) (first_places elements water.now)) }
 {
     let mut below: u64 = 0;
-    let mut j: usize = 0;
-    while j < elements {
+    for j in 0..elements {
         write_element(
             out,
             56 + 40 * j,
@@ -163,6 +162,5 @@ pub fn write_elements<'a>(
             stress,
         );
         below += solids[j] + water[j];
-        j += 1;
     }
 }

@@ -12,17 +12,17 @@ use Rattle.numbers.specs.Lists.{neighbours}
 use Rattle.numbers.proofs.Searches.{both, joined}
 use Rattle.numbers.proofs.Shares.{interpolates}
 use Rattle.rules.specs.Curve.{Point, spans, interpolated, curve_at, is_on, value_of, falling}
-use Rattle.quantities.specs.declared.CurveValue.{CurveValue}
-use Rattle.quantities.specs.declared.CurveValue.TheVariants.{On}
+use Rattle.quantities.specs.Quantities.{CurveValue}
+use Rattle.std.specs.Prelude.{Some}
 
 -- what a curve gives, by its first segment or by the rest
 pub on_segment : (a b : Point) (rest : List Point) (x : ℕ) (P : CurveValue → Type 0) →
-    (T (spans a b x) → P (On (interpolated a b x))) → (T (not (spans a b x)) → P (curve_at (b ∷ rest) x)) → P (curve_at (a ∷ b ∷ rest) x)
+    (T (spans a b x) → P (Some (interpolated a b x))) → (T (not (spans a b x)) → P (curve_at (b ∷ rest) x)) → P (curve_at (a ∷ b ∷ rest) x)
 unfolding curve_at
 on_segment a b rest x P here there = go (spans a b x) here there
   where
-    go : (c : Bool) → (T c → P (On (interpolated a b x))) → (T (not c) → P (curve_at (b ∷ rest) x)) →
-        P (elim c as (λ _. CurveValue) [ true ↦ On (interpolated a b x) | false ↦ curve_at (b ∷ rest) x ])
+    go : (c : Bool) → (T c → P (Some (interpolated a b x))) → (T (not c) → P (curve_at (b ∷ rest) x)) →
+        P (elim c as (λ _. CurveValue) [ true ↦ Some (interpolated a b x) | false ↦ curve_at (b ∷ rest) x ])
     go true h t = h tt
     go false h t = t tt
 

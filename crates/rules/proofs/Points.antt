@@ -6,7 +6,7 @@ use borrow.Author.Tests.{leb-true, leb-false}
 use lib.ListN.{get_or, drop}
 use mathlib.Core.Bool.{Bool, true, false, ◌&&◌}
 use mathlib.Core.List.{List, [], ◌∷◌}
-use mathlib.Core.Path.{◌≡◌, refl, sym, ap, ◌∙◌}
+use mathlib.Core.Path.{◌≡◌, refl, ap, ◌∙◌}
 use Rattle.numbers.proofs.Filled.{drop-tabulate, drop-tabulate_end}
 use Rattle.numbers.specs.Lists.{all, neighbours}
 use Rattle.numbers.proofs.Searches.{both, all_drop, neighbours-drop}
@@ -68,33 +68,3 @@ module _ (n : ℕ) (xs ys : List ℕ) where
   neighbours_at test t i h =
       (both (test (at i) (at (i + 1))) (neighbours test (drop (i + 1) (points n xs ys)))
       (rw (neighbours_step i test h) at (neighbours-drop test (points n xs ys) i t))).0
-
-  -- a loop that tests every point: it fails, goes on, or ends, with the test of the rest as its invariant
-  module _ (test : Point → Bool) (i : ℕ) (inv : all test (drop i (points n xs ys)) ≡ all test (points n xs ys)) where
-    stepped : i < n → (b : Bool) → test (at i) ≡ b → b && all test (drop (i + 1) (points n xs ys)) ≡ all test (points n xs ys)
-    stepped h b e = rw (← e) (sym (all_step i test h) ∙ inv)
-
-    pub all_fails : i < n → test (at i) ≡ false → false ≡ all test (points n xs ys)
-    all_fails h e = stepped h false e
-
-    pub all_goes : i < n → test (at i) ≡ true → all test (drop (i + 1) (points n xs ys)) ≡ all test (points n xs ys)
-    all_goes h e = stepped h true e
-
-    pub all_ends : n ≤ i → true ≡ all test (points n xs ys)
-    all_ends h = sym (all_end i test h) ∙ inv
-
-  -- the same for every two neighbours
-  module _ (test : Point → Point → Bool) (i : ℕ) (inv : neighbours test (drop i (points n xs ys)) ≡ neighbours test (points n xs ys)) where
-    moved : i + 1 < n → (b : Bool) → test (at i) (at (i + 1)) ≡ b →
-        b && neighbours test (drop (i + 1) (points n xs ys)) ≡ neighbours test (points n xs ys)
-    moved h b e = rw (← e) (sym (neighbours_step i test h) ∙ inv)
-
-    pub neighbours_fail : i + 1 < n → test (at i) (at (i + 1)) ≡ false → false ≡ neighbours test (points n xs ys)
-    neighbours_fail h e = moved h false e
-
-    pub neighbours_go : i + 1 < n → test (at i) (at (i + 1)) ≡ true →
-        neighbours test (drop (i + 1) (points n xs ys)) ≡ neighbours test (points n xs ys)
-    neighbours_go h e = moved h true e
-
-    pub neighbours_stop : n ≤ i + 1 → true ≡ neighbours test (points n xs ys)
-    neighbours_stop h = sym (neighbours_end i test h) ∙ inv

@@ -3,7 +3,7 @@ use Prim.Native.Nat.{ℕ, suc, ◌≤◌}
 use lib.Dec.{T, lit<, lit≤}
 use mathlib.Core.Bool.{false}
 use mathlib.Core.List.{List}
-use mathlib.Core.Option.{some}
+use Rattle.std.specs.Prelude.{Some}
 use mathlib.Core.Path.{◌≡◌, refl}
 use Rattle.quantities.specs.Quantities.{water_limits, pressure_of}
 use Rattle.rules.specs.Curve.{Point, falling}
@@ -25,7 +25,7 @@ module _ (load W : ℕ) where
   rests : suc W ≤ water_limits.most → void_ratio 1_000_000 W ≤ 200_000_000 →
       T (at_most (effective_stress (skeleton_of (resting_curve load)) 1_000_000 (suc W)) load) →
       at_most (effective_stress (skeleton_of (resting_curve load)) 1_000_000 W) load ≡ false →
-      resting_water (skeleton_of (resting_curve load)) 1_000_000 load ≡ some (suc W)
+      resting_water (skeleton_of (resting_curve load)) 1_000_000 load ≡ Some (suc W)
   unfolding resting_curve falling
   rests small on passes fails = resting-found (resting_curve load) tt 1_000_000 (lit< tt) load W small on passes fails
 

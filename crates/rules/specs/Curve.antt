@@ -7,8 +7,9 @@ use Rattle.numbers.specs.Interpolation.{distance, share}
 use Rattle.numbers.specs.Arrays.{tabulate}
 use Rattle.numbers.specs.Lists.{all, neighbours}
 use Rattle.quantities.specs.Quantities.{within, stress_limits, void_limits, conductivity_limits}
-use Rattle.quantities.specs.declared.CurveValue.{CurveValue}
-use Rattle.quantities.specs.declared.CurveValue.TheVariants.{On, Off}
+use Rattle.quantities.specs.Quantities.{CurveValue}
+use Rattle.std.specs.Option.{unwrap_or}
+use Rattle.std.specs.Prelude.{None, Some, is_some}
 
 pub record Point : Type 0 where
   pub abscissa : ℕ
@@ -38,9 +39,9 @@ interpolation_remainder a b x = (b.ordinate - a.ordinate) * distance a.abscissa 
 -- what a curve gives at x; outside its end points x is off the curve
 unfoldable pub curve_at : List Point → ℕ → CurveValue
 unfolding spans interpolated
-curve_at [] x = Off
-curve_at (a ∷ []) x = Off
-curve_at (a ∷ b ∷ rest) x = elim (spans a b x) [ true ↦ On (interpolated a b x) | false ↦ curve_at (b ∷ rest) x ]
+curve_at [] x = None
+curve_at (a ∷ []) x = None
+curve_at (a ∷ b ∷ rest) x = elim (spans a b x) [ true ↦ Some (interpolated a b x) | false ↦ curve_at (b ∷ rest) x ]
 
 -- the first segment that spans x, counted from 0, as `curve_at` finds it
 unfoldable pub segment_at : List Point → ℕ → ℕ
@@ -57,13 +58,11 @@ curve_remainder (a ∷ []) x = 0
 curve_remainder (a ∷ b ∷ rest) x = elim (spans a b x) [ true ↦ interpolation_remainder a b x | false ↦ curve_remainder (b ∷ rest) x ]
 
 unfoldable pub is_on : CurveValue → Bool
-is_on (On value) = true
-is_on Off = false
+is_on value = is_some value
 
 -- the value on the curve, 0 off it
 unfoldable pub value_of : CurveValue → ℕ
-value_of (On value) = value
-value_of Off = 0
+value_of value = unwrap_or value 0
 
 -- stress strictly rises and void ratio strictly falls
 unfoldable pub falling : List Point → Bool

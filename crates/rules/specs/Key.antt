@@ -1,6 +1,6 @@
 -- The key: from a job's bytes to the result's.
 use Rattle.std.specs.Prelude.{ℕ, ltb, length, true, false, List}
-use Rattle.std.proofs.Math.Option.{none, some}
+use Rattle.std.specs.Prelude.{None, Some}
 use Rattle.numbers.specs.Arrays.{overlaid}
 use Rattle.rules.specs.Calls.{ended_run}
 use Rattle.rules.specs.Job.{described}
@@ -27,6 +27,6 @@ key job buffer =
     let opened = opening job in
     let d = described job in
     elim (refusal_of opened.answer) [
-      | some cause ↦ refused_result cause buffer
-      | none ↦ run_to_result opened.after d.header.end d.header.budget buffer
+      | Some cause ↦ refused_result cause buffer
+      | None ↦ run_to_result opened.after d.header.end d.header.budget buffer
     ]

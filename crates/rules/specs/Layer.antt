@@ -5,7 +5,7 @@ use Rattle.numbers.specs.Rounding.{floor, ceil}
 use Rattle.numbers.specs.Sums.{sum}
 use Rattle.quantities.specs.Quantities.{void_unit, head, pressure, pressure_of}
 use Rattle.rules.specs.Curve.{Point, curve_at, value_of}
-use Rattle.quantities.specs.declared.CurveValue.{CurveValue}
+use Rattle.quantities.specs.Quantities.{CurveValue}
 use Rattle.quantities.specs.declared.Face.{Face}
 use Rattle.quantities.specs.declared.Pressure.{Pressure}
 

@@ -1,6 +1,6 @@
 -- Load: the load table, and setting a load.
 use Rattle.std.specs.Prelude.{ℕ, ◌-◌, ltb, eqb, ℤ, pos, ◌+ℤ◌, ◌-ℤ◌, ◌*ℤ◌, Bool, true, false, not, ◌&&◌, List, [], ◌∷◌}
-use Rattle.std.proofs.Math.Option.{Option}
+use Rattle.std.specs.Prelude.{Option}
 use Rattle.numbers.specs.Rounding.{cut}
 use Rattle.numbers.specs.Lists.{all, neighbours, first_or}
 use Rattle.quantities.specs.Quantities.{within, stress_limits, clock_limits}

@@ -1,7 +1,7 @@
 -- Cases of note 4 of document 02, for a table of their own: the long division at a layer's faces and on a curve.
 use Rattle.std.specs.Prelude.{ℕ, ℤ, pos, negsuc, List, [], ◌∷◌, map, ◌≡◌}
 use Rattle.quantities.specs.Quantities.{pressure}
-use Rattle.quantities.specs.declared.CurveValue.TheVariants.{On}
+use Rattle.std.specs.Prelude.{Some}
 use Rattle.quantities.specs.declared.Face.{Face}
 use Rattle.quantities.specs.declared.Face.TheVariants.{Closed, Drained}
 use Rattle.rules.specs.Artesian.{over}
@@ -58,10 +58,10 @@ pub record LongDivision : Type 0 where
   pub artesian_flows : flows_from (over 1 2 1_517_512_029 2_000_000 12_394_288) 1_000 ≡ negsuc 100_500 ∷ pos 100_500 ∷ []
   pub artesian_leaves : remainders_from (over 1 2 1_517_512_029 2_000_000 12_394_288) 1_000 ≡ negsuc 43_924 ∷ pos 500 ∷ []
   -- 7 × 20 = 2 × 50 + 40 on the first segment, 21 × 20 = 8 × 50 + 20 on the second; of two that share a point the first counts
-  pub first_segment : curve_at two_segments 180 ≡ On 7
+  pub first_segment : curve_at two_segments 180 ≡ Some 7
   pub first_found : segment_at two_segments 180 ≡ 0
   pub first_leaves : curve_remainder two_segments 180 ≡ 40
-  pub second_segment : curve_at two_segments 130 ≡ On 20
+  pub second_segment : curve_at two_segments 130 ≡ Some 20
   pub second_found : segment_at two_segments 130 ≡ 1
   pub second_leaves : curve_remainder two_segments 130 ≡ 20
   pub shared_found : segment_at two_segments 150 ≡ 0

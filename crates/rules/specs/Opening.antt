@@ -1,6 +1,6 @@
 -- Opening: from a job's bytes, or from what they describe, to a record.
 use Rattle.std.specs.Prelude.{ℕ, eqb, pos, Bool, not, cond, ◌||◌, List, [], ◌∷◌}
-use Rattle.std.proofs.Math.Option.{Option, none, some}
+use Rattle.std.specs.Prelude.{Option, None, Some}
 use Rattle.numbers.specs.Arrays.{zeros, overlaid}
 use Rattle.numbers.specs.Sums.{sum}
 use Rattle.quantities.specs.Quantities.{head}
@@ -11,7 +11,8 @@ use Rattle.rules.specs.Outcome.{Numbers, answer_numbers}
 use Rattle.rules.specs.Refusals.{Trial, ◌if◌, first_cause, refusal_number}
 use Rattle.rules.specs.Record.{soil_of, layer_of, record_of, progress_of}
 use Rattle.rules.specs.Job.{Description, described, counts_of, frame_of, job_site, given_water, header_sound, described_causes, job_causes}
-use Rattle.rules.specs.declared.answers.Acceptance.{Acceptance}
+use Rattle.rules.specs.declared.answers.Accepted.{Accepted}
+use Rattle.std.specs.Prelude.{Result, Ok, Err}
 use Rattle.rules.specs.declared.answers.Answer.TheVariants.{Done, Refused}
 use Rattle.rules.specs.declared.answers.Answered.{Answered}
 use Rattle.rules.specs.declared.answers.Refusal.{Refusal}
@@ -73,8 +74,8 @@ unfoldable pub started : Description → Started
 unfolding description_water start_steady
 started d =
     elim (description_water d) [
-      | none ↦ not_started StartOffCurve
-      | some water ↦ cond (start_steady d water) (started_with water) (not_started StartNotSteady)
+      | None ↦ not_started StartOffCurve
+      | Some water ↦ cond (start_steady d water) (started_with water) (not_started StartNotSteady)
     ]
 
 -- what opening answers and leaves: causes 1 to 8, then those of the start
@@ -82,8 +83,8 @@ unfoldable pub opening : List ℕ → Answered
 unfolding first_cause job_causes refused_opening described started opened_record
 opening job =
     elim (first_cause (job_causes job)) [
-      | some cause ↦ refused_opening cause
-      | none ↦ elim (started (described job)) [
+      | Some cause ↦ refused_opening cause
+      | None ↦ elim (started (described job)) [
         | not_started cause ↦ refused_opening cause
         | started_with water ↦ record { answer = Done; after = opened_record (described job) water }
       ]
@@ -100,22 +101,22 @@ unfolding header_sound described_causes
 layer_causes d = (HeaderOutside if not (header_sound d.header)) ∷ described_causes d
 
 -- the numbers of a description's layer, or why there is none: those causes, then those of its start
-unfoldable pub accepted : Description → Acceptance
+unfoldable pub accepted : Description → Result Accepted Refusal
 unfolding first_cause layer_causes started frame_of opening_state job_site sum
 accepted d =
     elim (first_cause (layer_causes d)) [
-      | some cause ↦ Acceptance.Refused cause
-      | none ↦ elim (started d) [
-        | not_started cause ↦ Acceptance.Refused cause
-        | started_with water ↦ Acceptance.Accepted (frame_of d.header (sum water)) (progress_of (opening_state (job_site d) water))
+      | Some cause ↦ Err cause
+      | None ↦ elim (started d) [
+        | not_started cause ↦ Err cause
+        | started_with water ↦ Ok (record { frame = frame_of d.header (sum water); progress = progress_of (opening_state (job_site d) water) })
       ]
     ]
 
 -- an acceptance in the paper's numbers: 0, or the refusal's
-unfoldable pub acceptance_number : Acceptance → ℕ
+unfoldable pub acceptance_number : Result Accepted Refusal → ℕ
 unfolding refusal_number
-acceptance_number (Acceptance.Accepted frame progress) = 0
-acceptance_number (Acceptance.Refused cause) = refusal_number cause
+acceptance_number (Ok layer) = 0
+acceptance_number (Err cause) = refusal_number cause
 
 unfoldable pub accepted_number : Description → ℕ
 unfolding accepted acceptance_number
@@ -129,4 +130,4 @@ started_water d = elim (started d) [ not_started cause ↦ d.water | started_wit
 -- that of an accepted description; where it is refused, as it is given
 unfoldable pub accepted_water : Description → List ℕ
 unfolding first_cause layer_causes started_water
-accepted_water d = elim (first_cause (layer_causes d)) [ some cause ↦ d.water | none ↦ started_water d ]
+accepted_water d = elim (first_cause (layer_causes d)) [ Some cause ↦ d.water | None ↦ started_water d ]

@@ -1,6 +1,6 @@
 -- What a call answers on a layer, and what it does: nothing where it is refused.
 use Rattle.std.specs.Prelude.{ℕ, pos, List, [], ◌∷◌}
-use Rattle.std.proofs.Math.Option.{Option, none, some}
+use Rattle.std.specs.Prelude.{Option, None, Some}
 use Rattle.rules.specs.Layer.{Site, State}
 use Rattle.rules.specs.Refusals.{refusal_number}
 use Rattle.rules.specs.Step.{step_refusal}
@@ -30,9 +30,9 @@ unfolding answer_numbers
 answer_number answer = (answer_numbers answer).refusal
 
 unfoldable pub refusal_of : Answer → Option Refusal
-refusal_of Done = none
-refusal_of (Ran stop steps) = none
-refusal_of (Refused cause) = some cause
+refusal_of Done = None
+refusal_of (Ran stop steps) = None
+refusal_of (Refused cause) = Some cause
 
 pub record Outcome : Type 0 where
   pub answer : Answer
@@ -50,8 +50,8 @@ ran site end budget s =
 unfoldable pub outcome : Site → State → Call → Outcome
 unfolding load_refusal step_refusal run_refusal refused ran
 outcome site s (Load load) =
-    elim (load_refusal load) [ some cause ↦ refused cause | none ↦ record { answer = Done; events = load_set (pos load) ∷ [] } ]
+    elim (load_refusal load) [ Some cause ↦ refused cause | None ↦ record { answer = Done; events = load_set (pos load) ∷ [] } ]
 outcome site s (Step t) =
-    elim (step_refusal site s t) [ some cause ↦ refused cause | none ↦ record { answer = Done; events = step_taken t ∷ [] } ]
+    elim (step_refusal site s t) [ Some cause ↦ refused cause | None ↦ record { answer = Done; events = step_taken t ∷ [] } ]
 outcome site s (Run end budget) =
-    elim (run_refusal s end budget) [ some cause ↦ refused cause | none ↦ ran site end budget s ]
+    elim (run_refusal s end budget) [ Some cause ↦ refused cause | None ↦ ran site end budget s ]

@@ -1,6 +1,6 @@
 -- The causes for which a key is withheld, and their numbers.
 use Rattle.std.specs.Prelude.{ℕ, Bool, true, false, List, [], ◌∷◌}
-use Rattle.std.proofs.Math.Option.{Option, none, some}
+use Rattle.std.specs.Prelude.{Option, None, Some}
 use Rattle.rules.specs.declared.answers.Refusal.{Refusal}
 use Rattle.rules.specs.declared.answers.Refusal.TheVariants.{ShortOrUnmarked, OtherVersion, HeaderOutside, WrongLength, FieldOutside, CompressibilityCurve, ConductivityCurve, LoadTable, StartOffCurve, ShortBuffer, NoLayer, LoadOutside, StepOutside, StepTooLong, StepOffCurve, RunOutside, ShortJobBuffer, ReadingOutside, ElementOutside, StartNotSteady}
 
@@ -38,5 +38,5 @@ cause if holds = record { cause = cause; holds = holds }
 
 -- the first cause that holds, in the order listed
 unfoldable pub first_cause : List Trial → Option Refusal
-first_cause [] = none
-first_cause (trial ∷ rest) = elim trial.holds [ true ↦ some trial.cause | false ↦ first_cause rest ]
+first_cause [] = None
+first_cause (trial ∷ rest) = elim trial.holds [ true ↦ Some trial.cause | false ↦ first_cause rest ]

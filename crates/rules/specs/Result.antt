@@ -1,6 +1,6 @@
 -- The result's bytes.
 use Rattle.std.specs.Prelude.{ℕ, ◌+◌, ◌*◌, ltb, ℤ, pos, ◌+ℤ◌, ◌-ℤ◌, length, not, List, [], ◌∷◌, ◌++◌}
-use Rattle.std.proofs.Math.Option.{Option, none, some}
+use Rattle.std.specs.Prelude.{Option, None, Some}
 use Rattle.numbers.specs.Arrays.{overlaid}
 use Rattle.numbers.specs.Bytes.{bytes}
 use Rattle.numbers.specs.Integers.{up, signed_field}
@@ -124,6 +124,6 @@ unfoldable pub result : Record → Stop → (steps : ℕ) (buffer : List ℕ) �
 unfolding result_refusal refused_result result_bytes overlaid
 result r stop steps buffer =
     elim (result_refusal r (length buffer)) [
-      | some cause ↦ refused_result cause buffer
-      | none ↦ record { number = 0; buffer = overlaid (result_bytes r stop steps) buffer }
+      | Some cause ↦ refused_result cause buffer
+      | None ↦ record { number = 0; buffer = overlaid (result_bytes r stop steps) buffer }
     ]

@@ -1,6 +1,6 @@
 -- Run: the loop to an end time with a budget. What it does is told as its events, a load set or a step taken.
 use Rattle.std.specs.Prelude.{ℕ, zero, suc, ◌-◌, min, ltb, eqb, ℤ, true, false, not, ◌||◌, List, [], ◌∷◌}
-use Rattle.std.proofs.Math.Option.{Option}
+use Rattle.std.specs.Prelude.{Option}
 use Rattle.numbers.specs.Lists.{greatest}
 use Rattle.quantities.specs.Quantities.{within, clock_limits, step_limits, budget_limits}
 use Rattle.rules.specs.Layer.{Site, State}

@@ -10,8 +10,8 @@ use Rattle.rules.specs.Opening.{opening}
 use Rattle.rules.specs.Calls.{Replay, replayed}
 use Rattle.rules.specs.declared.answers.Call.{Call}
 use Rattle.rules.specs.declared.answers.Call.TheVariants.{Load, Step}
-use Rattle.quantities.specs.declared.CurveValue.{CurveValue}
-use Rattle.quantities.specs.declared.CurveValue.TheVariants.{On}
+use Rattle.quantities.specs.Quantities.{CurveValue}
+use Rattle.std.specs.Prelude.{Some}
 use Rattle.rules.specs.declared.record.Record.{Record}
 
 unfoldable pub pair : ℕ → ℕ → List ℕ
@@ -83,7 +83,7 @@ pub record Table : Type 0 where
   pub case_2_accepted : numbers_after (Step 100 ∷ []) ≡ 0 ∷ []
   pub case_2_water : (state_after (Step 100 ∷ [])).water ≡ 2_000_000 ∷ 1_986_409 ∷ []
   pub case_2_outflow : (state_after (Step 100 ∷ [])).top_outflow ≡ pos 13_591
-  pub case_2_stress : record_stresses (specimen_after (Step 100 ∷ [])).after ≡ On 5_000_000 ∷ On 6_359_100 ∷ []
+  pub case_2_stress : record_stresses (specimen_after (Step 100 ∷ [])).after ≡ Some 5_000_000 ∷ Some 6_359_100 ∷ []
   pub case_3_water : (state_after (Step 100 ∷ Step 100 ∷ [])).water ≡ 1_999_078 ∷ 1_975_614 ∷ []
   pub case_3_outflow : (state_after (Step 100 ∷ Step 100 ∷ [])).top_outflow ≡ pos 25_308
   pub case_4_accepted : numbers_after (Step 367 ∷ []) ≡ 0 ∷ []

@@ -1,6 +1,6 @@
 -- Start: where the water heights of an opened layer come from.
 use Rattle.std.specs.Prelude.{ℕ, suc, ◌+◌, leb, eqb, ℤ, pos, Bool, true, false, cond, List, map}
-use Rattle.std.proofs.Math.Option.{Option, none, some}
+use Rattle.std.specs.Prelude.{Option, None, Some}
 use Rattle.numbers.specs.Integers.{eq_ℤ}
 use Rattle.numbers.specs.Lists.{least, last_or, paired, all_some}
 use Rattle.quantities.specs.Quantities.{water_limits}
@@ -8,8 +8,7 @@ use Rattle.rules.specs.Curve.{Point, point}
 use Rattle.rules.specs.Layer.{Site, State, Skeleton, effective_stress}
 use Rattle.rules.specs.Step.{all_on_curve}
 use Rattle.rules.specs.Load.{first_point}
-use Rattle.quantities.specs.declared.CurveValue.{CurveValue}
-use Rattle.quantities.specs.declared.CurveValue.TheVariants.{On, Off}
+use Rattle.quantities.specs.Quantities.{CurveValue}
 use Rattle.quantities.specs.declared.Face.{Face}
 use Rattle.quantities.specs.declared.Face.TheVariants.{Closed, Drained}
 
@@ -20,8 +19,8 @@ opening_load site = (first_point site.load_table).ordinate
 
 -- on the curve, with a stress of at most so much
 unfoldable pub at_most : CurveValue → (stress : ℕ) → Bool
-at_most (On value) stress = leb value stress
-at_most Off stress = false
+at_most (Some value) stress = leb value stress
+at_most None stress = false
 
 -- the least water height on the curve whose effective stress is at most so much
 unfoldable pub resting_water : Skeleton → (S stress : ℕ) → Option ℕ
@@ -38,7 +37,7 @@ last_stress curve = (last_or (point 0 0) curve).ordinate
 unfoldable pub resting_under : Skeleton → (load B S : ℕ) → Option ℕ
 unfolding last_stress
 resting_under soil load B S =
-    elim (leb (load + B) (last_stress soil.compressibility)) [ true ↦ resting_water soil S (load + B) | false ↦ none ]
+    elim (leb (load + B) (last_stress soil.compressibility)) [ true ↦ resting_water soil S (load + B) | false ↦ None ]
 
 -- that of every element
 unfoldable pub resting_from : Skeleton → (load : ℕ) (Bs Ss : List ℕ) → Option (List ℕ)
@@ -54,7 +53,7 @@ rests_over (Drained held) top_level bottom_level = eq_ℤ bottom_level top_level
 unfoldable pub start_water : Skeleton → (Bs Ss : List ℕ) (may_rest : Bool) (start : ℕ) (given : List ℕ) (load : ℕ) → Option (List ℕ)
 unfolding all_on_curve resting_from
 start_water soil Bs Ss may_rest start given load =
-    cond (eqb start 1) (cond may_rest (resting_from soil load Bs Ss) none) (cond (all_on_curve soil Ss (map pos given)) (some given) none)
+    cond (eqb start 1) (cond may_rest (resting_from soil load Bs Ss) None) (cond (all_on_curve soil Ss (map pos given)) (Some given) None)
 
 -- the state of a layer just opened with some water
 unfoldable pub opening_state : Site → (water : List ℕ) → State

@@ -58,11 +58,11 @@ pub struct Ended {
     pub progress: Progress,
 }
 
-// What a job's description answers: the numbers of its layer, or a refusal.
+// The numbers of the layer of an accepted description.
 #[derive(Clone, Copy)]
-pub enum Acceptance {
-    Accepted(Frame, Progress),
-    Refused(Refusal),
+pub struct Accepted {
+    pub frame: Frame,
+    pub progress: Progress,
 }
 
 // An answer with the record as the call leaves it.

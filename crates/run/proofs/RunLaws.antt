@@ -3,7 +3,7 @@ use Prim.Native.Nat.{ℕ}
 use lib.Dec.{ltb}
 use mathlib.Core.Bool.{Bool, true, false, not, ◌||◌}
 use mathlib.Core.List.{[], ◌∷◌}
-use mathlib.Core.Option.{Option, none, some}
+use Rattle.std.specs.Prelude.{Option, None, Some}
 use mathlib.Core.Path.{◌≡◌, refl, ap, ◌∙◌}
 use Rattle.lent.proofs.CallLaws.{on_layer, refused_on_layer}
 use Rattle.lent.specs.Progress.{refused_with}
@@ -27,10 +27,10 @@ ran_to e = record { answer = Ran e.stop e.steps; after = e.after }
 module _ (r : Record) (end budget : ℕ) (is : is_layer r ≡ true) where
   by_refusal : (cause : Option Refusal) → run_refusal (record_state r) end budget ≡ cause →
       outcome (record_site r) (record_state r) (Run end budget) ≡
-      elim cause [ some cause ↦ refused cause | none ↦ ran (record_site r) end budget (record_state r) ]
+      elim cause [ Some cause ↦ refused cause | None ↦ ran (record_site r) end budget (record_state r) ]
   unfolding outcome
   by_refusal cause e =
-      ap (λ (c : Option Refusal). elim c as (λ _. Outcome) [ some x ↦ refused x | none ↦ ran (record_site r) end budget (record_state r) ]) e
+      ap (λ (c : Option Refusal). elim c as (λ _. Outcome) [ Some x ↦ refused x | None ↦ ran (record_site r) end budget (record_state r) ]) e
 
   module _ {late timed counted : Bool} (p : ltb end r.layer.progress.clock.0 ≡ late) (q : within clock_limits end ≡ timed)
       (u : within budget_limits budget ≡ counted) where
@@ -42,10 +42,10 @@ module _ (r : Record) (end budget : ℕ) (is : is_layer r ≡ true) where
     unfolding first_cause
     run_outside e =
         refused_on_layer r (Run end budget) RunOutside is
-        (by_refusal (some RunOutside) (by_tests ∙ ap (λ (b : Bool). first_cause ((RunOutside if b) ∷ [])) e))
+        (by_refusal (Some RunOutside) (by_tests ∙ ap (λ (b : Bool). first_cause ((RunOutside if b) ∷ [])) e))
 
     pub run_within : (late || not timed || not counted) ≡ false → called r (Run end budget) ≡ ran_to (ended_run r end budget)
     unfolding first_cause ran ended_run
     run_within e =
         on_layer r (Run end budget) (ran (record_site r) end budget (record_state r)) is
-        (by_refusal none (by_tests ∙ ap (λ (b : Bool). first_cause ((RunOutside if b) ∷ [])) e))
+        (by_refusal None (by_tests ∙ ap (λ (b : Bool). first_cause ((RunOutside if b) ∷ [])) e))

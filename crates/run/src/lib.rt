@@ -12,7 +12,7 @@ ghost use Rattle.rules.specs.declared.record.Record.{Record};
 ghost use Rattle.lent.specs.Burdens.{burdens_in};
 
 use lent::state;
-use quantities::{Budget, Clock, TestedClock};
+use quantities::{Budget, Clock, Quantity};
 use rules::answers::{Answer, Answered, Ended, Refusal, Stop};
 use rules::record::{CurveCounts, Frame, Progress, Record, Skeleton};
 
@@ -127,7 +127,7 @@ pub fn take_run(r: Record, end: u64, budget: u64) -> Answered
     if end < clock.0 {
         return state::refused(r, Refusal::RunOutside);
     }
-    let TestedClock::Within(_) = Clock::new(end) else {
+    let Some(_) = Clock::new(end) else {
         return state::refused(r, Refusal::RunOutside);
     };
     if !Budget::within(budget) {

@@ -4,7 +4,7 @@ ghost use Rattle.scenarios.specs.Divisions.{kept, entry_count, divided_number};
 ghost use Rattle.transcript.specs.Input.{is_record};
 
 use crate::print;
-use record_flows::Divided;
+use rules::answers::Refusal;
 use rules::record::Record;
 use std::io;
 use transcript::input;
@@ -18,12 +18,10 @@ fn kept(buffer: &[i64; 129], first: usize) -> u64
     ensures upper_bound { result ≤ 129 }
 {
     let mut count: u64 = 0;
-    let mut i = first;
-    while i < 129 {
+    for i in first..129 {
         if buffer[i] == FILL {
             count += 1;
         }
-        i += 1;
     }
     count
 }
@@ -37,32 +35,30 @@ fn write_entries(
 ) -> io::Result<()>
     requires { count ≤ 129 }
 {
-    let mut i: usize = 0;
-    while i < count {
+    for i in 0..count {
         crate::write_number(rt, encoding::signed_field(flows[i]))?;
         crate::write_number(rt, encoding::signed_field(remainders[i]))?;
-        i += 1;
     }
     Ok(())
 }
 
 // How many entries a division has.
-fn entry_count(divided: Divided) -> usize
+fn entry_count(divided: Result<usize, Refusal>) -> usize
     ensures { result ≡ entry_count divided }
 {
     match divided {
-        Divided::Entries(count) => count,
-        Divided::Refused(_) => 0,
+        Ok(count) => count,
+        Err(_) => 0,
     }
 }
 
 // The refusal number of a division, 0 where it is accepted.
-fn refusal_number(divided: Divided) -> u64
+fn refusal_number(divided: Result<usize, Refusal>) -> u64
     ensures { result ≡ divided_number divided }
 {
     match divided {
-        Divided::Entries(_) => 0,
-        Divided::Refused(cause) => answers::refusal_number(cause),
+        Ok(_) => 0,
+        Err(cause) => answers::refusal_number(cause),
     }
 }
 
@@ -107,11 +103,9 @@ fn answer_calls(rt: &impl Print, first: Record, calls: &[u64]) -> io::Result<()>
 {
     print::state(rt, first)?;
     let mut record = first;
-    let mut end: usize = 3;
-    while end <= calls.len() {
-        record = make_call(rt, record, calls[end - 3], calls[end - 2], calls[end - 1])?;
+    for call in calls.chunks_exact(3) {
+        record = make_call(rt, record, call[0], call[1], call[2])?;
         print::state(rt, record)?;
-        end += 3;
     }
     Ok(())
 }

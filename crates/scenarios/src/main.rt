@@ -34,8 +34,8 @@ fn answer_calls(
     print::state(rt, first)?;
     let mut words = [0u64; 96];
     let mut after = first;
-    let mut end: usize = 3;
-    while end <= calls.len() {
+    for i in 0..calls.len() / 3 {
+        let end = 3 * i + 3;
         if accepted {
             let replayed = replay::replay(job, &calls[..end], &mut words[..end]);
             let last = replayed.after;
@@ -51,7 +51,6 @@ fn answer_calls(
             words[end - 1],
         )?;
         print::state(rt, after)?;
-        end += 3;
     }
     print::site(rt, after)
 }
@@ -194,10 +193,8 @@ fn answer_reading(
 fn answer_readings(rt: &impl Print, record: Record, words: &[u64]) -> io::Result<()>
     requires { length words.now ≤ 192 }
 {
-    let mut end: usize = 3;
-    while end <= words.len() {
-        answer_reading(rt, record, words[end - 3], words[end - 2], words[end - 1])?;
-        end += 3;
+    for reading in words.chunks_exact(3) {
+        answer_reading(rt, record, reading[0], reading[1], reading[2])?;
     }
     Ok(())
 }
@@ -263,12 +260,10 @@ fn answer_blocks(rt: &impl Print, file: &mut impl Read) -> io::Result<()> {
     let mut count = [0u8; 8];
     streams::read_full(file, &mut count)?;
     let blocks = encoding::field(&count, 8, 0);
-    let mut number: u64 = 0;
-    while number < blocks {
+    for number in 0..blocks {
         if !next_block(rt, file, number)? {
             return Ok(());
         }
-        number += 1;
     }
     Ok(())
 }

@@ -45,17 +45,12 @@ pub fn state(rt: &impl Print, of: Record) -> io::Result<()> {
     line(rt, b"state", &out, n)
 }
 
-// Writes an array for elements.
-fn elements(rt: &impl Print, name: &[u8], values: &[u64; 128]) -> io::Result<()> {
+// Writes an array.
+fn column(rt: &impl Print, name: &[u8], values: &[u64]) -> io::Result<()>
+    requires { length values.now ≤ 128 }
+{
     let mut out = [0u8; 4096];
-    let n = lines::put_elements(&mut out, 0, values);
-    line(rt, name, &out, n)
-}
-
-// Writes an array for points.
-fn points(rt: &impl Print, name: &[u8], values: &[u64; 64]) -> io::Result<()> {
-    let mut out = [0u8; 2048];
-    let n = lines::put_points(&mut out, 0, values);
+    let n = lines::put_column(&mut out, 0, values);
     line(rt, name, &out, n)
 }
 
@@ -64,11 +59,11 @@ pub fn site(rt: &impl Print, of: Record) -> io::Result<()> {
     let mut out = [0u8; 256];
     let n = lines::put_site(&mut out, of);
     line(rt, b"site", &out, n)?;
-    elements(rt, b"solids", &of.layer.solids)?;
-    points(rt, b"stress", &of.soil.compressibility_stress)?;
-    points(rt, b"void", &of.soil.compressibility_void)?;
-    points(rt, b"conductivity_void", &of.soil.conductivity_void)?;
-    points(rt, b"conductivity", &of.soil.conductivity)?;
-    points(rt, b"time", &of.layer.table_time)?;
-    points(rt, b"load_at", &of.layer.table_load)
+    column(rt, b"solids", &of.layer.solids)?;
+    column(rt, b"stress", &of.soil.compressibility_stress)?;
+    column(rt, b"void", &of.soil.compressibility_void)?;
+    column(rt, b"conductivity_void", &of.soil.conductivity_void)?;
+    column(rt, b"conductivity", &of.soil.conductivity)?;
+    column(rt, b"time", &of.layer.table_time)?;
+    column(rt, b"load_at", &of.layer.table_load)
 }

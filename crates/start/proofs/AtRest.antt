@@ -6,7 +6,7 @@ use lib.Dec.{T, leb, leb→le}
 use lib.ListN.{get_or}
 use mathlib.Core.Bool.{Bool, true, false}
 use mathlib.Core.List.{List}
-use mathlib.Core.Option.{none, some}
+use Rattle.std.specs.Prelude.{None, Some}
 use mathlib.Core.Path.{◌≡◌}
 use Rattle.laws.specs.Bounds.{lowest_water, highest_water}
 use Rattle.laws.proofs.Bounds.{highest_water_lem, water_bounds}
@@ -52,12 +52,12 @@ module _ (m : ℕ) (void stress : List ℕ) (two : 2 ≤ m) (sound : compressibi
 
   -- the height that rests while none below it does
   pub rests_least : (W : ℕ) → W ≤ water_limits.most → T (rests_at curve S most W) → ((U : ℕ) → U < W → T (rests_at curve S most U) → ⊥) →
-      resting_water (skeleton_of curve) S most ≡ some W
+      resting_water (skeleton_of curve) S most ≡ Some W
   unfolding resting_water
   rests_least W h t below = least_found (rests_at curve S most) (suc water_limits.most) 0 W t below (omega arith) (omega arith)
 
   -- no height rests where the highest does not
-  pub rests_nowhere : rests_at curve S most highest ≡ false → resting_water (skeleton_of curve) S most ≡ none
+  pub rests_nowhere : rests_at curve S most highest ≡ false → resting_water (skeleton_of curve) S most ≡ None
   unfolding resting_water
   rests_nowhere fails =
       least_none (rests_at curve S most) (suc water_limits.most) 0

@@ -6,7 +6,8 @@ use lib.ListN.{length}
 use borrow.Author.Tests.{le-leb, lt-leb}
 use mathlib.Core.Bool.{Bool, true, false}
 use mathlib.Core.List.{List, [], ◌∷◌}
-use mathlib.Core.Option.{Option, none, some, none-ne-some}
+use Rattle.std.specs.Prelude.{Option, None, Some}
+use Rattle.std.proofs.lemmas.Option.{none-some}
 use mathlib.Core.Path.{◌≡◌, refl, sym, ap, ◌∙◌}
 use Rattle.laws.specs.Every.{Every}
 use Rattle.numbers.specs.Arrays.{tabulate}
@@ -24,7 +25,7 @@ module _ (soil : Skeleton) (load B S : ℕ) where
   unfolding resting_under
   under_last h = rw (le-leb (load + B) (last_stress soil.compressibility) h, resting_under)
 
-  pub above_last : last_stress soil.compressibility < load + B → resting_under soil load B S ≡ none
+  pub above_last : last_stress soil.compressibility < load + B → resting_under soil load B S ≡ None
   unfolding resting_under
   above_last h = rw (lt-leb (load + B) (last_stress soil.compressibility) h, resting_under)
 
@@ -35,19 +36,19 @@ unfolding resting_from
 from_step soil load B S Bs Ss = refl
 
 -- where the rest have none, all have none
-prepended_none : (o : Option ℕ) → prepended o none ≡ none
+prepended_none : (o : Option ℕ) → prepended o None ≡ None
 unfolding prepended
-prepended_none (some W) = refl
-prepended_none none = refl
+prepended_none (Some W) = refl
+prepended_none None = refl
 
 module _ (soil : Skeleton) (load : ℕ) where
   -- element i rests at a height
   abbrev pub RestsAt : (B S h : ℕ → ℕ) → ℕ → Type 0
-  RestsAt B S h i = resting_under soil load (B i) (S i) ≡ some (h i)
+  RestsAt B S h i = resting_under soil load (B i) (S i) ≡ Some (h i)
 
   -- all elements rest
   pub all_rest : (n : ℕ) (B S h : ℕ → ℕ) → ((i : ℕ) → i < n → RestsAt B S h i) →
-      resting_from soil load (tabulate n B) (tabulate n S) ≡ some (tabulate n h)
+      resting_from soil load (tabulate n B) (tabulate n S) ≡ Some (tabulate n h)
   unfolding tabulate prepended resting_from
   all_rest zero B S h e = refl
   all_rest (suc n) B S h e =
@@ -55,8 +56,8 @@ module _ (soil : Skeleton) (load : ℕ) where
       rw (e 0 (omega arith), all_rest n (λ i. B (suc i)) (λ i. S (suc i)) (λ i. h (suc i)) (λ i k. e (suc i) (omega arith)))
 
   -- some element does not
-  pub one_not : (n j : ℕ) (B S : ℕ → ℕ) → j < n → resting_under soil load (B j) (S j) ≡ none →
-      resting_from soil load (tabulate n B) (tabulate n S) ≡ none
+  pub one_not : (n j : ℕ) (B S : ℕ → ℕ) → j < n → resting_under soil load (B j) (S j) ≡ None →
+      resting_from soil load (tabulate n B) (tabulate n S) ≡ None
   unfolding tabulate prepended
   one_not zero j B S h e = absurd (omega arith)
   one_not (suc n) zero B S h e =
@@ -66,22 +67,22 @@ module _ (soil : Skeleton) (load : ℕ) where
       rw (one_not n j (λ i. B (suc i)) (λ i. S (suc i)) (omega arith) e) (prepended_none (resting_under soil load (B 0) (S 0)))
 
   -- where all elements rest, their resting water is that of as many as do
-  pub heights_all : (Bs Ss water : List ℕ) → resting_from soil load Bs Ss ≡ some water → resting_heights soil load Bs Ss ≡ water
+  pub heights_all : (Bs Ss water : List ℕ) → resting_from soil load Bs Ss ≡ Some water → resting_heights soil load Bs Ss ≡ water
   unfolding resting_from resting_heights prepended
   heights_all [] Ss water e = cc
   heights_all (B ∷ Bs) [] water e = cc
   heights_all (B ∷ Bs) (S ∷ Ss) water e = go (resting_under soil load B S) (resting_from soil load Bs Ss) (heights_all Bs Ss) water (sym (from_step soil load B S Bs Ss) ∙ e)
     where
-      go : (o : Option ℕ) (rest : Option (List ℕ)) → ((water : List ℕ) → rest ≡ some water → resting_heights soil load Bs Ss ≡ water) →
-          (water : List ℕ) → prepended o rest ≡ some water →
-          ◌≡◌ {A = List ℕ} (elim o [ some W ↦ W ∷ resting_heights soil load Bs Ss | none ↦ [] ]) water
-      go none rest ih water e = absurd (none-ne-some water e)
-      go (some W) none ih water e = absurd (none-ne-some water e)
-      go (some W) (some more) ih water e = let same = ih more refl in cc
+      go : (o : Option ℕ) (rest : Option (List ℕ)) → ((water : List ℕ) → rest ≡ Some water → resting_heights soil load Bs Ss ≡ water) →
+          (water : List ℕ) → prepended o rest ≡ Some water →
+          ◌≡◌ {A = List ℕ} (elim o [ Some W ↦ W ∷ resting_heights soil load Bs Ss | None ↦ [] ]) water
+      go None rest ih water e = absurd (none-some water e)
+      go (Some W) None ih water e = absurd (none-some water e)
+      go (Some W) (Some more) ih water e = let same = ih more refl in cc
 
 -- the resting water of the first elements, up to one that does not rest, or of all
 pub heights_until : (soil : Skeleton) (load n j : ℕ) (B S h : ℕ → ℕ) → j ≤ n →
-    ((i : ℕ) → i < j → resting_under soil load (B i) (S i) ≡ some (h i)) → (j < n → resting_under soil load (B j) (S j) ≡ none) →
+    ((i : ℕ) → i < j → resting_under soil load (B i) (S i) ≡ Some (h i)) → (j < n → resting_under soil load (B j) (S j) ≡ None) →
     resting_heights soil load (tabulate n B) (tabulate n S) ≡ tabulate j h
 unfolding tabulate resting_heights
 heights_until soil load zero zero B S h k e f = refl
@@ -95,24 +96,24 @@ heights_until soil load (suc n) (suc j) B S h k e f =
 -- ---- how many heights, and how high
 
 -- the least that passes a test is one of those tried
-least_below : (test : ℕ → Bool) (count n found : ℕ) → least count n test ≡ some found → found < n + count
+least_below : (test : ℕ → Bool) (count n found : ℕ) → least count n test ≡ Some found → found < n + count
 unfolding least
-least_below test zero n found e = absurd (none-ne-some found e)
+least_below test zero n found e = absurd (none-some found e)
 least_below test (suc count) n found e = go (test n) e (least_below test count (suc n) found)
   where
-    go : (passes : Bool) → elim passes as (λ _. Option ℕ) [ true ↦ some n | false ↦ least count (suc n) test ] ≡ some found →
-        (least count (suc n) test ≡ some found → found < suc n + count) → found < n + suc count
+    go : (passes : Bool) → elim passes as (λ _. Option ℕ) [ true ↦ Some n | false ↦ least count (suc n) test ] ≡ Some found →
+        (least count (suc n) test ≡ Some found → found < suc n + count) → found < n + suc count
     go true e later = let same : n ≡ found = cc in omega arith
     go false e later = omega (arith, later e)
 
 module _ (soil : Skeleton) (load : ℕ) where
-  under_most : (B S W : ℕ) → resting_under soil load B S ≡ some W → W ≤ water_limits.most
+  under_most : (B S W : ℕ) → resting_under soil load B S ≡ Some W → W ≤ water_limits.most
   unfolding resting_under resting_water
   under_most B S W e = go (leb (load + B) (last_stress soil.compressibility)) e
     where
-      go : (under : Bool) → elim under as (λ _. Option ℕ) [ true ↦ resting_water soil S (load + B) | false ↦ none ] ≡ some W → W ≤ water_limits.most
+      go : (under : Bool) → elim under as (λ _. Option ℕ) [ true ↦ resting_water soil S (load + B) | false ↦ None ] ≡ Some W → W ≤ water_limits.most
       go true e = omega (arith, least_below (λ U. at_most (effective_stress soil S U) (load + B)) (suc water_limits.most) 0 W e)
-      go false e = absurd (none-ne-some W e)
+      go false e = absurd (none-some W e)
 
   -- each keeps the greatest height
   pub heights_most : (Bs Ss : List ℕ) → Every (λ W. W ≤ water_limits.most) (resting_heights soil load Bs Ss)
@@ -121,11 +122,11 @@ module _ (soil : Skeleton) (load : ℕ) where
   heights_most (B ∷ Bs) [] = tt
   heights_most (B ∷ Bs) (S ∷ Ss) = go (resting_under soil load B S) (under_most B S) (heights_most Bs Ss)
     where
-      go : (o : Option ℕ) → ((W : ℕ) → o ≡ some W → W ≤ water_limits.most) →
+      go : (o : Option ℕ) → ((W : ℕ) → o ≡ Some W → W ≤ water_limits.most) →
           Every (λ W. W ≤ water_limits.most) (resting_heights soil load Bs Ss) →
-          Every (λ W. W ≤ water_limits.most) (elim o [ some W ↦ W ∷ resting_heights soil load Bs Ss | none ↦ [] ])
-      go (some W) most rest = (most W refl, rest)
-      go none most rest = tt
+          Every (λ W. W ≤ water_limits.most) (elim o [ Some W ↦ W ∷ resting_heights soil load Bs Ss | None ↦ [] ])
+      go (Some W) most rest = (most W refl, rest)
+      go None most rest = tt
 
   -- there are no more of them than elements
   pub heights_few : (Bs Ss : List ℕ) → length (resting_heights soil load Bs Ss) ≤ length Bs
@@ -135,6 +136,6 @@ module _ (soil : Skeleton) (load : ℕ) where
   heights_few (B ∷ Bs) (S ∷ Ss) = go (resting_under soil load B S) (heights_few Bs Ss)
     where
       go : (o : Option ℕ) → length (resting_heights soil load Bs Ss) ≤ length Bs →
-          length {A = ℕ} (elim o as (λ _. List ℕ) [ some W ↦ W ∷ resting_heights soil load Bs Ss | none ↦ [] ]) ≤ length {A = ℕ} (B ∷ Bs)
-      go (some W) h = omega arith
-      go none h = omega arith
+          length {A = ℕ} (elim o as (λ _. List ℕ) [ Some W ↦ W ∷ resting_heights soil load Bs Ss | None ↦ [] ]) ≤ length {A = ℕ} (B ∷ Bs)
+      go (Some W) h = omega arith
+      go None h = omega arith

@@ -5,7 +5,7 @@ use lib.IntN.{pos}
 use lib.ListN.{get_or}
 use mathlib.Core.Bool.{Bool, true, false, cond}
 use mathlib.Core.List.{List, map}
-use mathlib.Core.Option.{Option, none, some}
+use Rattle.std.specs.Prelude.{Option, None, Some}
 use mathlib.Core.Path.{◌≡◌, refl, sym, ap, ◌∙◌}
 use Rattle.laws.proofs.Lengths.{burdens-length}
 use Rattle.numbers.specs.Arrays.{first_places, overlaid}
@@ -31,7 +31,7 @@ module _ (soil : Skeleton) (Bs Ss : List ℕ) (may_rest : Bool) (start : ℕ) (g
   unfolding start_water all_or_none
   given_start e = rw (e, start_water) (go (all_on_curve soil Ss (map pos given)))
     where
-      go : (on : Bool) → ◌≡◌ {A = Option (List ℕ)} (cond on (some given) none) (all_or_none on given)
+      go : (on : Bool) → ◌≡◌ {A = Option (List ℕ)} (cond on (Some given) None) (all_or_none on given)
       go true = refl
       go false = refl
 
@@ -40,11 +40,11 @@ module _ (soil : Skeleton) (Bs Ss : List ℕ) (may_rest : Bool) (start : ℕ) (g
   unfolding start_water
   resting_start e over = rw (e, over, start_water)
 
-  pub unrested_start : eqb start 1 ≡ true → may_rest ≡ false → start_water soil Bs Ss may_rest start given load ≡ none
+  pub unrested_start : eqb start 1 ≡ true → may_rest ≡ false → start_water soil Bs Ss may_rest start given load ≡ None
   unfolding start_water
   unrested_start e over = rw (e, over, start_water)
 
 -- the array of resting water, where every element rests
-pub resting_array : (soil : Skeleton) (load : ℕ) (Bs Ss water start after : List ℕ) → resting_from soil load Bs Ss ≡ some water →
+pub resting_array : (soil : Skeleton) (load : ℕ) (Bs Ss water start after : List ℕ) → resting_from soil load Bs Ss ≡ Some water →
     after ≡ overlaid (resting_heights soil load Bs Ss) start → after ≡ overlaid water start
 resting_array soil load Bs Ss water start after e k = k ∙ ap (λ (l : List ℕ). overlaid l start) (heights_all soil load Bs Ss water e)

@@ -10,18 +10,10 @@ ghost use Rattle.rules.specs.Layer.{Site, skeleton_of, effective_stress};
 ghost use Rattle.quantities.specs.Quantities.{stress_limits, solids_limits, water_limits, element_limits, curve_limits};
 ghost use Rattle.rules.specs.Start.{at_most, resting_water, resting_under, resting_from};
 ghost use Rattle.rules.specs.Step.{all_on_curve};
-ghost use Rattle.start.specs.Rest.{resting_answer, resting_heights, all_or_none};
+ghost use Rattle.start.specs.Rest.{resting_heights, all_or_none};
 
 use curves::reading;
-use quantities::CurveValue;
 use rules::record::Skeleton;
-
-// Where the water of an element rests: at a height, or at none.
-#[derive(Clone, Copy)]
-pub enum Resting {
-    At(u64),
-    Nowhere,
-}
 
 // Whether every element is on a sound compressibility curve.
 pub fn all_on_curve<'a>(
@@ -39,15 +31,13 @@ pub fn all_on_curve<'a>(
     ensures { result ≡ all_on_curve (skeleton_of (points skeleton.points void.now stress.now)) (first_places elements solids.now) (map pos (first_places elements water.now)) }
 {
     let mut hint: usize = 0;
-    let mut j: usize = 0;
-    while j < elements {
+    for j in 0..elements {
         let found = element::effective_stress(solids[j], water[j], skeleton, void, stress, hint);
         let value = found.value;
         if !reading::is_on(value) {
             return false;
         }
         hint = found.segment;
-        j += 1;
     }
     true
 }
@@ -69,8 +59,8 @@ pub fn rests<'a>(
     let found = element::effective_stress(solids, water, skeleton, void, stress, 0);
     let value = found.value;
     match value {
-        CurveValue::On(read) => read <= most,
-        CurveValue::Off => false,
+        Some(read) => read <= most,
+        None => false,
     }
 }
 
@@ -81,15 +71,15 @@ pub fn resting_water<'a>(
     skeleton: Skeleton,
     void: &'a [u64; 64],
     stress: &'a [u64; 64],
-) -> Resting
+) -> Option<u64>
     requires solids_nonzero { (0 < solids) × (solids ≤ solids_limits.most) }
     requires least_le_points { (curve_limits.least ≤ skeleton.points) × (skeleton.points ≤ curve_limits.most) }
     requires stress_value { compressibility_sound (points skeleton.points void.now stress.now) ≡ true }
-    ensures { result ≡ resting_answer (resting_water (skeleton_of (points skeleton.points void.now stress.now)) solids most) }
+    ensures { result ≡ resting_water (skeleton_of (points skeleton.points void.now stress.now)) solids most }
 {
     let mut high = water::highest_water(solids, void[0]);
     if !rests(solids, high, most, skeleton, void, stress) {
-        return Resting::Nowhere;
+        return None;
     }
     let mut low = water::lowest_water(solids, void[skeleton.points - 1]);
     while low < high {
@@ -100,7 +90,7 @@ pub fn resting_water<'a>(
             low = middle + 1;
         }
     }
-    Resting::At(high)
+    Some(high)
 }
 
 // The resting water of an element under load + B: nowhere where that is above the last stress.
@@ -111,16 +101,16 @@ pub fn resting_under<'a>(
     skeleton: Skeleton,
     void: &'a [u64; 64],
     stress: &'a [u64; 64],
-) -> Resting
+) -> Option<u64>
     requires load_le_most { (load ≤ stress_limits.most) × (burden ≤ most_burden) }
     requires solids_nonzero { (0 < solids) × (solids ≤ solids_limits.most) }
     requires least_le_points { (curve_limits.least ≤ skeleton.points) × (skeleton.points ≤ curve_limits.most) }
     requires stress_value { compressibility_sound (points skeleton.points void.now stress.now) ≡ true }
-    ensures { result ≡ resting_answer (resting_under (skeleton_of (points skeleton.points void.now stress.now)) load burden solids) }
+    ensures { result ≡ resting_under (skeleton_of (points skeleton.points void.now stress.now)) load burden solids }
 {
     let most = load + burden;
     if stress[skeleton.points - 1] < most {
-        return Resting::Nowhere;
+        return None;
     }
     resting_water(solids, most, skeleton, void, stress)
 }
@@ -146,14 +136,11 @@ pub fn resting_waters<'a>(
     ensures solids_value { resting_from (skeleton_of (points skeleton.points void.now stress.now)) load (first_places elements burden.now) (first_places elements solids.now) ≡ all_or_none result (first_places elements water.new) }
     ensures water_after { water.new ≡ overlaid (resting_heights (skeleton_of (points skeleton.points void.now stress.now)) load (first_places elements burden.now) (first_places elements solids.now)) water.old }
 {
-    let mut j: usize = 0;
-    while j < elements {
-        let rest = resting_under(load, burden[j], solids[j], skeleton, void, stress);
-        match rest {
-            Resting::At(height) => water[j] = height,
-            Resting::Nowhere => return false,
+    for j in 0..elements {
+        match resting_under(load, burden[j], solids[j], skeleton, void, stress) {
+            Some(height) => water[j] = height,
+            None => return false,
         }
-        j += 1;
     }
     true
 }

@@ -1,21 +1,16 @@
 -- The flows of a layer that is lent, by its elements: each is worked out from the element below its face and the one above.
-use Prim.Native.Nat.{ℕ, ◌+◌, ◌≤◌, ◌<◌}
-use lib.Dec.{lit≤}
+use Prim.Native.Nat.{ℕ, ◌+◌, ◌<◌}
 use lib.IntN.{pos, ◌-ℤ◌, ◌*ℤ◌}
 use lib.ListN.{get_or}
-use mathlib.Core.Path.{◌≡◌, refl}
-use mir.Syntax.{w64}
-use mir.Val.{SFits, of_z, to_z}
+use mathlib.Core.Path.{◌≡◌}
 use native.Mathlib.Omega.{arith}
 use Rattle.element.proofs.FlowsAt.{flow_inner, flow_top}
 use Rattle.element.specs.Elements.{element_of}
 use Rattle.laws.proofs.Excess as Excess
-use Rattle.laws.specs.Most.{most_difference, most_excess, most_face_resistance, most_resistance}
+use Rattle.laws.specs.Most.{most_excess}
 use Rattle.layer.specs.Held.{Held, Stands, excess_at, resistance_at}
 use Rattle.numbers.proofs.Filled.{get_or-tabulate}
-use Rattle.numbers.proofs.Interval.{within_fits, within_le, within-sub}
 use Rattle.numbers.proofs.Searches.{passed}
-use Rattle.numbers.proofs.Signed.{read_back}
 use Rattle.numbers.specs.Arrays.{tabulate}
 use Rattle.numbers.specs.Interval.{Within}
 use Rattle.numbers.specs.Rounding.{cut}
@@ -64,39 +59,6 @@ module _ (top : Face) (h : Held) (j : ℕ) where
         get_or-tabulate h.elements (resistance_at h) j 0 (omega arith),
       )
 
--- ---- elements that stand as they are read
-
--- p and r of element j
+-- p and r of element j, as it stands
 abbrev pub standing_at : Held → ℕ → Standing
 standing_at h j = record { excess = excess_at h j; resistance = resistance_at h j }
-
-module _ (h : Held) (stands : Stands h) (j : ℕ) (k : j < h.elements) {here : Standing} (here_is : here ≡ standing_at h j) where
-  pub excess_range : Within here.excess most_excess
-  excess_range = rw here_is (excess_in h stands j k)
-
-  pub excess_back : to_z w64 (of_z w64 here.excess) ≡ here.excess
-  excess_back = read_back (within_fits tt excess_range)
-
-  pub resistance_range : (0 < here.resistance) × (here.resistance ≤ most_resistance)
-  resistance_range = rw here_is ((resistance_in h stands j k).positive, (resistance_in h stands j k).most)
-
-  -- out through a face
-  pub outward_is : (face : Face) → outward face steady_seconds (element_of here.excess here.resistance 0) ≡
-      outward face steady_seconds (element_of (excess_at h j) (resistance_at h j) 0)
-  outward_is face = rw here_is refl
-
--- an element and the one above it
-module _ (h : Held) (stands : Stands h) (j : ℕ) (k : j + 1 < h.elements) {here above : Standing} (here_is : here ≡ standing_at h j)
-    (above_is : above ≡ standing_at h (j + 1)) where
-  pub apart : Within (here.excess -ℤ above.excess) most_difference
-  apart =
-      within_le (within-sub (excess_range h stands j (omega arith) here_is) (excess_range h stands (j + 1) k above_is)) (lit≤ tt)
-
-  pub apart_fits : SFits w64 (here.excess -ℤ above.excess)
-  apart_fits = within_fits tt apart
-
-  pub sum_range : (0 < here.resistance + above.resistance) × (here.resistance + above.resistance ≤ most_face_resistance)
-  sum_range = omega (arith, resistance_range h stands j (omega arith) here_is, resistance_range h stands (j + 1) k above_is)
-
-  pub flow_is : (top : Face) → cut ((here.excess -ℤ above.excess) *ℤ pos steady_seconds) (here.resistance + above.resistance) ≡ flow_over top h j
-  flow_is top = rw (here_is, above_is, flow_between top h j k) refl

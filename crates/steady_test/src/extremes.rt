@@ -4,7 +4,7 @@ ghost use Rattle.laws.specs.Faces.{HeldWithin};
 ghost use Rattle.layer.specs.Held.{Held, held_of, Stands};
 ghost use Rattle.quantities.specs.Quantities.{element_limits};
 ghost use Rattle.rules.specs.Record.{soil_of};
-ghost use Rattle.steady_test.specs.Extremes.{lesser, greater, of_one, with_flow, extremes_to};
+ghost use Rattle.steady_test.specs.Extremes.{of_one, with_flow, extremes_to};
 ghost use Rattle.steady_test.specs.Flows.{lowest_flow, flow_over};
 
 use crate::standing;
@@ -18,20 +18,6 @@ const SECONDS: u64 = 1_000;
 pub struct Extremes {
     pub least: i64,
     pub greatest: i64,
-}
-
-// The lesser of two flows.
-pub fn lesser(a: i64, b: i64) -> i64
-    ensures { result ≡ lesser a b }
-{
-    if a < b { a } else { b }
-}
-
-// The greater of two flows.
-pub fn greater(a: i64, b: i64) -> i64
-    ensures { result ≡ greater a b }
-{
-    if a < b { b } else { a }
 }
 
 // Both extremes of one flow.
@@ -49,8 +35,8 @@ pub fn with_flow(extremes: Extremes, flow: i64) -> Extremes
     ensures { result ≡ with_flow extremes flow }
 {
     Extremes {
-        least: lesser(extremes.least, flow),
-        greatest: greater(extremes.greatest, flow),
+        least: extremes.least.min(flow),
+        greatest: extremes.greatest.max(flow),
     }
 }
 
@@ -90,8 +76,7 @@ pub fn of_flows<'a>(
     );
     let lowest = element::bottom_flow(bottom, here.excess, SECONDS, here.resistance);
     let mut extremes = of_one(lowest);
-    let mut j: usize = 0;
-    while j + 1 < elements {
+    for j in 0..elements - 1 {
         let next = j + 1;
         let above = standing::read(
             load,
@@ -110,7 +95,6 @@ pub fn of_flows<'a>(
         let flow = element::flow(difference, SECONDS, resistance);
         extremes = with_flow(extremes, flow);
         here = above;
-        j = next;
     }
     let last = element::outward(top, here.excess, SECONDS, here.resistance);
     with_flow(extremes, last)

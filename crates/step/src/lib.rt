@@ -10,8 +10,7 @@ ghost use Rattle.rules.specs.Record.{is_layer};
 ghost use Rattle.rules.specs.declared.answers.Call.TheVariants.{Step};
 
 use lent::state;
-use lent_step::Stepped;
-use quantities::{Clock, Seconds, TestedClock};
+use quantities::{Clock, Quantity, Seconds};
 use rules::answers::{Answer, Answered, Refusal};
 use rules::record::Record;
 
@@ -37,8 +36,8 @@ pub fn step_layer(r: Record, t: u64) -> Answered
         t,
     );
     match stepped {
-        Stepped::Refused(cause) => state::refused(r, cause),
-        Stepped::Done(progress) => Answered {
+        Err(cause) => state::refused(r, cause),
+        Ok(progress) => Answered {
             answer: Answer::Done,
             after: state::with_parts(r, water, progress),
         },
@@ -58,7 +57,7 @@ pub fn take_step(r: Record, t: u64) -> Answered
     }
     let clock = r.layer.progress.clock;
     match Clock::new(clock.0 + t) {
-        TestedClock::Outside => state::refused(r, Refusal::StepOutside),
-        TestedClock::Within(_) => step_layer(r, t),
+        None => state::refused(r, Refusal::StepOutside),
+        Some(_) => step_layer(r, t),
     }
 }

@@ -16,16 +16,15 @@ ghost use Rattle.quantities.specs.Quantities.{solids_limits, stress_limits, step
 use quantities::Face;
 
 // The sensitivity of every element.
+#[tactic(auto, using(numbers::proofs::Filled::filled_zero, numbers::proofs::Filled::filled_suc))]
 pub fn sensitivities<'a>(elements: usize, solids: &'a [u64; 128], sensitivity: &mut [u64; 128])
     requires elements_le_most { elements ≤ element_limits.most }
     requires by_index { (j : ℕ) → j < elements → (0 < get_or solids.now j 0) × (get_or solids.now j 0 ≤ solids_limits.most) }
     requires sensitivity_len { length sensitivity.old ≡ 128 }
     ensures { sensitivity.new ≡ filled sensitivity.old elements (λ j. layer.sensitivity (get_or solids.now j 0)) }
 {
-    let mut j: usize = 0;
-    while j < elements {
+    for j in 0..elements {
         sensitivity[j] = element::sensitivity(solids[j]);
-        j += 1;
     }
 }
 
@@ -54,14 +53,12 @@ pub fn shorten_inner(t: u64, steepness: u64, below: u64, above: u64, resistance:
     requires resistance_le_most_face_resistance { resistance ≤ most_face_resistance }
     ensures { result ≡ min t (floor resistance (2 * max below above * steepness)) }
 {
-    shorten(
-        t,
-        2 * numbers::greater(below, above) * steepness,
-        resistance,
-    )
+    let divisor = 2 * below.max(above) * steepness;
+    shorten(t, divisor, resistance)
 }
 
 // A step shortened for an element and an outer face: not at all if it is closed.
+#[tactic(auto, unfolding(laws::specs::Shorten::shortened, rules::specs::Step::outer_contacts, rules::specs::Step::outer_resistance))]
 pub fn shorten_outer(face: Face, t: u64, steepness: u64, sensitivity: u64, resistance: u64) -> u64
     requires t_le_most { t ≤ step_limits.most }
     requires steepness_nonzero { (0 < steepness) × (steepness ≤ stress_limits.most) }
@@ -76,6 +73,7 @@ pub fn shorten_outer(face: Face, t: u64, steepness: u64, sensitivity: u64, resis
 }
 
 // The longest step of at most so many seconds that is too long for no element and face of it.
+#[tactic(auto, using(crate::proofs::ReachAt::begins, crate::proofs::ReachAt::at_inner, crate::proofs::ReachAt::at_top))]
 pub fn longest<'a>(
     elements: usize,
     top: Face,
@@ -92,21 +90,21 @@ pub fn longest<'a>(
     ensures { result ≡ longest_within top bottom steepness elements resistance.now sensitivity.now most }
 {
     let mut t = shorten_outer(bottom, most, steepness, sensitivity[0], resistance[0]);
-    let mut j: usize = 0;
-    while j + 1 < elements {
+    for j in 1..elements {
         t = shorten_inner(
             t,
             steepness,
+            sensitivity[j - 1],
             sensitivity[j],
-            sensitivity[j + 1],
-            resistance[j] + resistance[j + 1],
+            resistance[j - 1] + resistance[j],
         );
-        j += 1;
     }
-    shorten_outer(top, t, steepness, sensitivity[j], resistance[j])
+    let last = elements - 1;
+    shorten_outer(top, t, steepness, sensitivity[last], resistance[last])
 }
 
 // Whether a step is too long for some element and face of it.
+#[tactic(auto, using(crate::proofs::ReachAt::too_long_is))]
 pub fn too_long<'a>(
     elements: usize,
     top: Face,

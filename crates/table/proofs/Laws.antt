@@ -94,12 +94,15 @@ module _ (n : ℕ) (time load : List ℕ) where
   pub begins_late : 0 < n → (get_or time 0 0 ≡ 0 → ⊥) → table_sound table ≡ false
   begins_late h k = tests ∙ rw (first_some h, ne_eqb (get_or time 0 0) 0 k)
 
-  pub begins_at_0 : (0 < n → get_or time 0 0 ≡ 0) → table_sound table ≡ follow && limited
+  pub begins_at_0 : get_or time 0 0 ≡ 0 → table_sound table ≡ follow && limited
   begins_at_0 start = tests ∙ rw (go (ltb 0 n) refl)
     where
       go : (some : Bool) → ltb 0 n ≡ some → (first_point table).abscissa ≡ 0
-      go true e = let h = ltb-true 0 n e in first_some h ∙ start h
+      go true e = first_some (ltb-true 0 n e) ∙ start
       go false e = first_none (ltb-false 0 n e)
+
+  pub begins_nowhere : n ≤ 0 → table_sound table ≡ follow && limited
+  begins_nowhere h = tests ∙ rw (first_none h)
 
   -- what a sound table says, by index
   module _ (sound : table_sound table ≡ true) where

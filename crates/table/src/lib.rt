@@ -11,9 +11,10 @@ ghost use Rattle.quantities.specs.Quantities.{stress_limits, clock_limits, table
 
 use points::checks;
 use points::checks::Trend;
-use quantities::{Kind, Pressure};
+use quantities::{Clock, Pressure};
 
 // Whether the first time is 0, times strictly rise, and times and loads keep their limits.
+#[tactic(auto, using(crate::proofs::Laws::begins_late, crate::proofs::Laws::begins_at_0, crate::proofs::Laws::begins_nowhere))]
 pub fn table_sound<'a>(table_points: usize, time: &'a [u64; 64], load: &'a [u64; 64]) -> bool
     requires { table_points ≤ table_limits.most }
     ensures { result ≡ table_sound (points table_points time.now load.now) }
@@ -22,7 +23,7 @@ pub fn table_sound<'a>(table_points: usize, time: &'a [u64; 64], load: &'a [u64;
         return false;
     }
     checks::neighbours_follow(Trend::Later, table_points, time, load)
-        && checks::points_within(table_points, time, load, Kind::Time, Kind::Stress)
+        && checks::points_within::<Clock, Pressure>(table_points, time, load)
 }
 
 // By how much a load changes to another.
@@ -47,6 +48,7 @@ pub fn load_between(time0: u64, load0: u64, time1: u64, load1: u64, clock: u64) 
 }
 
 // The load of a sound table at a time: a stress within its limits.
+#[tactic(auto, using(crate::proofs::Laws::load_here, crate::proofs::Laws::load_later))]
 pub fn load_at<'a>(
     table_points: usize,
     time: &'a [u64; 64],
@@ -58,27 +60,25 @@ pub fn load_at<'a>(
     ensures value { result ≡ pressure (load_at (points table_points time.now load.now) clock) }
     ensures pos_bound { (pos 0 ≤ℤ result.0) × (result.0 ≤ℤ pos stress_limits.most) }
 {
-    let mut i: usize = 0;
-    while i + 1 < table_points {
-        if clock < time[i + 1] {
-            return load_between(time[i], load[i], time[i + 1], load[i + 1], clock);
+    for i in 1..table_points {
+        if clock < time[i] {
+            return load_between(time[i - 1], load[i - 1], time[i], load[i], clock);
         }
-        i += 1;
     }
-    Pressure(load[i] as i64)
+    Pressure(load[table_points - 1] as i64)
 }
 
 // The first table time after a time, or another time where there is none: the loads do not matter.
+#[tactic(auto, using(crate::proofs::Laws::next_here, crate::proofs::Laws::next_later, crate::proofs::Laws::next_none))]
 pub fn next_time(table_points: usize, time: &[u64; 64], clock: u64, otherwise: u64) -> u64
     requires { table_points ≤ table_limits.most }
     ensures { (load : List ℕ) → result ≡ next_time (points table_points time.now load) clock otherwise }
 {
-    let mut i: usize = 0;
-    while i < table_points {
-        if clock < time[i] {
-            return time[i];
+    for i in 0..table_points {
+        let next = time[i];
+        if clock < next {
+            return next;
         }
-        i += 1;
     }
     otherwise
 }

@@ -1,19 +1,21 @@
 -- Laws of text.
-use Prim.Native.Nat.{ℕ, zero, suc, ◌+◌, ◌-◌, ◌/◌, ◌%◌, ◌^◌, ◌≤◌, ◌<◌}
+use Prim.Native.Nat.{ℕ, zero, suc, ◌+◌, ◌/◌, ◌%◌, ◌^◌, ◌≤◌, ◌<◌}
 use native.Mathlib.Nat.{add-zero, pow-suc}
-use native.Mathlib.Numerals.{add-one, sub-one}
+use native.Mathlib.Numerals.{add-one}
 use native.Mathlib.Omega.{arith}
 use borrow.Author.Tests.{lt-ltb, le-ltb, ltb-true, ltb-false}
 use lib.Dec.{ltb}
 use lib.IntN.{ℤ, pos, negsuc, nat_abs}
 use lib.ListN.{length, take, get_or, length-append}
 use lib.Seq.{length-sets, take-suc}
-use lib.Signed.{◌≤ℤ◌, ◌<ℤ◌}
+use lib.Signed.{lt_z}
 use mathlib.Core.Bool.{Bool, true, false}
 use mathlib.Core.List.{List, [], ◌∷◌, ◌++◌, append-nil, append_assoc}
 use mathlib.Core.Path.{◌≡◌, refl, sym, ap, ◌∙◌}
+use mir.Syntax.{w64}
+use mir.Val.{SFits, of_z, to_z}
 use Rattle.encoding.proofs.Stores.{sets_append}
-use Rattle.numbers.proofs.Signed.{le_parts, lt_parts}
+use Rattle.numbers.proofs.Signed.{read_back}
 use Rattle.text.specs.Text.{digits, decimal, signed_decimal, spaced, row, before, trimmed, Put}
 
 -- ---- digits
@@ -72,15 +74,16 @@ decimal_longer n h k = rw (decimal_more n h k) (length-append (decimal (n / 10))
 
 -- ---- signed numbers
 
-pub signed_negative : (z : ℤ) → z <ℤ pos 0 → signed_decimal z ≡ 45 ∷ decimal (nat_abs z)
+-- where the test of the bits says that z is below 0, and where it says that it is not
+pub signed_negative : (z : ℤ) → SFits w64 z → lt_z (to_z w64 (of_z w64 z)) (pos 0) ≡ true → signed_decimal z ≡ 45 ∷ decimal (nat_abs z)
 unfolding signed_decimal
-signed_negative (pos n) h = absurd (omega (arith, lt_parts (pos n) (pos 0) h))
-signed_negative (negsuc n) h = refl
+signed_negative (pos n) h e = absurd (omega (arith, ltb-true n 0 (rw (read_back h) at e)))
+signed_negative (negsuc n) h e = refl
 
-pub signed_positive : (z : ℤ) → pos 0 ≤ℤ z → signed_decimal z ≡ decimal (nat_abs z)
+pub signed_positive : (z : ℤ) → SFits w64 z → lt_z (to_z w64 (of_z w64 z)) (pos 0) ≡ false → signed_decimal z ≡ decimal (nat_abs z)
 unfolding signed_decimal
-signed_positive (pos n) h = refl
-signed_positive (negsuc n) h = absurd (omega (arith, le_parts (pos 0) (negsuc n) h))
+signed_positive (pos n) h e = refl
+signed_positive (negsuc n) h e = let below : ◌≡◌ {A = Bool} true false = rw (read_back h) at e in cc
 
 -- at most a sign and twenty digits
 pub length_signed : (z : ℤ) → length (signed_decimal z) ≤ 21
@@ -139,14 +142,10 @@ trimmed_other [] zero h = absurd (h refl)
 trimmed_other [] (suc n) h = refl
 trimmed_other (m ∷ ns) n h = ap (before m) (trimmed_other ns n h) ∙ before_other m n ns
 
--- the first n numbers, where the last of them is 0, and where it is another
-module _ (ns : List ℕ) where
-  pub trimmed_less : (n : ℕ) → 0 < n → n ≤ length ns → get_or ns (n - 1) 0 ≡ 0 → trimmed (take (n - 1) ns) ≡ trimmed (take n ns)
-  trimmed_less zero h k e = absurd (omega arith)
-  trimmed_less (suc i) h k e =
-      rw (sub-one (suc i), take-suc ns i 0 k, rw (sub-one (suc i)) at e) (sym (trimmed_zero (take i ns)))
+-- the first i + 1 numbers, where the last of them is 0, and where it is another
+module _ (ns : List ℕ) (i : ℕ) (h : i < length ns) where
+  pub trimmed_less : get_or ns i 0 ≡ 0 → trimmed (take (i + 1) ns) ≡ trimmed (take i ns)
+  trimmed_less e = rw (add-one i, take-suc ns i 0 h, e) (trimmed_zero (take i ns))
 
-  pub trimmed-all : (n : ℕ) → 0 < n → n ≤ length ns → (get_or ns (n - 1) 0 ≡ 0 → ⊥) → take n ns ≡ trimmed (take n ns)
-  trimmed-all zero h k e = absurd (omega arith)
-  trimmed-all (suc i) h k e =
-      rw (take-suc ns i 0 k) (sym (trimmed_other (take i ns) (get_or ns i 0) (rw (sub-one (suc i)) at e)))
+  pub trimmed_all : (get_or ns i 0 ≡ 0 → ⊥) → trimmed (take (i + 1) ns) ≡ take (i + 1) ns
+  trimmed_all e = rw (add-one i, take-suc ns i 0 h) (trimmed_other (take i ns) (get_or ns i 0) e)

@@ -40,7 +40,7 @@ fn size(z: i64) -> u64
     requires { z <ℤ pos 0 }
     ensures { result ≡ nat_abs z }
 {
-    (-1 - z) as u64 + 1
+    z.unsigned_abs()
 }
 
 // Stores a signed number in decimal, and gives the place after it.
@@ -84,24 +84,21 @@ pub fn put_row(out: &mut [u8], at: usize, values: &[u64], n: usize) -> usize
     ensures upper_bound { result ≤ at + 21 * n }
 {
     let mut next = at;
-    let mut i: usize = 0;
-    while i < n {
+    for i in 0..n {
         next = put_number(out, next, values[i]);
-        i += 1;
     }
     next
 }
 
 // The number of places up to the last one that is not 0.
+#[tactic(auto, using(crate::proofs::Laws::trimmed_less, crate::proofs::Laws::trimmed_all), unfolding(crate::specs::Text::trimmed))]
 pub fn used(values: &[u64]) -> usize
     ensures { (take result values.now ≡ trimmed values.now) × (result ≤ length values.now) }
 {
-    let mut n = values.len();
-    while n > 0 {
-        if values[n - 1] != 0 {
-            return n;
+    for i in (0..values.len()).rev() {
+        if values[i] != 0 {
+            return i + 1;
         }
-        n -= 1;
     }
-    n
+    0
 }

@@ -8,6 +8,7 @@ use quantities::{Clock, Face, Head, Outflow, Pressure};
 use rules::record::{CurveCounts, Frame, Layer, Progress, Record, Soil};
 
 // The face that two fields say.
+#[tactic(auto, using(encoding::proofs::Signed::back), unfolding(crate::specs::Input::face_in))]
 fn face(kind: u64, held: u64) -> Face
     ensures { result ≡ face_in kind held }
 {
@@ -18,6 +19,7 @@ fn face(kind: u64, held: u64) -> Face
 }
 
 // A signed field of 8 bytes.
+#[tactic(auto, using(encoding::proofs::Signed::back))]
 fn signed_field(body: &[u8], offset: usize) -> i64
     requires { offset + 8 ≤ length body.now }
     ensures { result ≡ signed_number (field 8 offset body.now) }
@@ -25,27 +27,20 @@ fn signed_field(body: &[u8], offset: usize) -> i64
     encoding::signed_number(encoding::field(body, 8, offset))
 }
 
-// The first fields of so many pairs that begin at an offset, in an array for the elements. The second fields begin 8 bytes on.
-fn firsts_128(body: &[u8], offset: usize, count: usize) -> [u64; 128]
-    requires { (count ≤ 128) × (offset + 16 * count ≤ length body.now + 8) }
-    ensures { result ≡ firsts 128 offset count body.now }
+// The first fields of so many pairs that begin at an offset, in an array for the elements or for the points of a curve or a table. The
+// second fields begin 8 bytes on.
+#[tactic(auto, unfolding(rules::specs::Job::firsts, numbers::specs::Arrays::zeros))]
+fn firsts<const N: usize>(body: &[u8], offset: usize, count: usize) -> [u64; N]
+    requires { (count ≤ N) × (offset + 16 * count ≤ length body.now + 8) }
+    ensures { result ≡ firsts N offset count body.now }
 {
-    let mut numbers = [0u64; 128];
-    encoding::read_column(body, 16, offset, count, &mut numbers);
-    numbers
-}
-
-// The same, in an array for the points of a curve or a table.
-fn firsts_64(body: &[u8], offset: usize, count: usize) -> [u64; 64]
-    requires { (count ≤ 64) × (offset + 16 * count ≤ length body.now + 8) }
-    ensures { result ≡ firsts 64 offset count body.now }
-{
-    let mut numbers = [0u64; 64];
+    let mut numbers = [0u64; N];
     encoding::read_column(body, 16, offset, count, &mut numbers);
     numbers
 }
 
 // Whether bytes give a record.
+#[tactic(auto, unfolding(crate::specs::Input::is_record, crate::specs::Input::table_at, crate::specs::Input::second_curve_at, crate::specs::Input::first_curve_at))]
 pub fn is_record(body: &[u8]) -> bool
     ensures { result ≡ is_record body.now }
 {
@@ -72,6 +67,7 @@ pub fn is_record(body: &[u8]) -> bool
 }
 
 // Where the pairs of the compressibility curve begin.
+#[tactic(auto, using(crate::proofs::Fitting::fitting), unfolding(crate::specs::Input::first_curve_at))]
 fn first_curve_at(body: &[u8]) -> usize
     requires { is_record body.now ≡ true }
     ensures { result ≡ first_curve_at body.now }
@@ -80,6 +76,7 @@ fn first_curve_at(body: &[u8]) -> usize
 }
 
 // Where the pairs of the conductivity curve begin.
+#[tactic(auto, using(crate::proofs::Fitting::fitting), unfolding(crate::specs::Input::second_curve_at))]
 fn second_curve_at(body: &[u8]) -> usize
     requires { is_record body.now ≡ true }
     ensures { result ≡ second_curve_at body.now }
@@ -88,6 +85,7 @@ fn second_curve_at(body: &[u8]) -> usize
 }
 
 // Where the pairs of the load table begin.
+#[tactic(auto, using(crate::proofs::Fitting::fitting), unfolding(crate::specs::Input::table_at))]
 fn table_at(body: &[u8]) -> usize
     requires { is_record body.now ≡ true }
     ensures { result ≡ table_at body.now }
@@ -96,6 +94,7 @@ fn table_at(body: &[u8]) -> usize
 }
 
 // The soil that bytes give.
+#[tactic(auto, using(crate::proofs::Fitting::fitting))]
 fn soil(body: &[u8]) -> Soil
     requires { is_record body.now ≡ true }
     ensures { result ≡ soil_in body.now }
@@ -104,10 +103,10 @@ fn soil(body: &[u8]) -> Soil
     let second = encoding::field(body, 8, 144) as usize;
     let first_at = first_curve_at(body);
     let second_at = second_curve_at(body);
-    let compressibility_stress = firsts_64(body, first_at, first);
-    let compressibility_void = firsts_64(body, first_at + 8, first);
-    let conductivity_void = firsts_64(body, second_at, second);
-    let conductivity = firsts_64(body, second_at + 8, second);
+    let compressibility_stress = firsts(body, first_at, first);
+    let compressibility_void = firsts(body, first_at + 8, first);
+    let conductivity_void = firsts(body, second_at, second);
+    let conductivity = firsts(body, second_at + 8, second);
     let counts = CurveCounts {
         compressibility: encoding::field(body, 8, 8) as usize,
         conductivity: encoding::field(body, 8, 16) as usize,
@@ -122,6 +121,7 @@ fn soil(body: &[u8]) -> Soil
 }
 
 // The numbers of a layer that no call changes, as bytes give them.
+#[tactic(auto, using(encoding::proofs::Signed::back), unfolding(crate::specs::Input::frame_in))]
 fn frame(body: &[u8]) -> Frame
     requires { 160 ≤ length body.now }
     ensures { result ≡ frame_in body.now }
@@ -141,6 +141,7 @@ fn frame(body: &[u8]) -> Frame
 }
 
 // The numbers of a layer that calls change, as bytes give them.
+#[tactic(auto, using(encoding::proofs::Signed::back), unfolding(crate::specs::Input::progress_in))]
 fn progress(body: &[u8]) -> Progress
     requires { 160 ≤ length body.now }
     ensures { result ≡ progress_in body.now }
@@ -154,6 +155,7 @@ fn progress(body: &[u8]) -> Progress
 }
 
 // The layer that bytes give.
+#[tactic(auto, using(crate::proofs::Fitting::fitting))]
 fn layer(body: &[u8]) -> Layer
     requires { is_record body.now ≡ true }
     ensures { result ≡ layer_in body.now }
@@ -161,10 +163,10 @@ fn layer(body: &[u8]) -> Layer
     let elements = encoding::field(body, 8, 128) as usize;
     let points = encoding::field(body, 8, 152) as usize;
     let at = table_at(body);
-    let solids = firsts_128(body, 160, elements);
-    let water = firsts_128(body, 168, elements);
-    let table_time = firsts_64(body, at, points);
-    let table_load = firsts_64(body, at + 8, points);
+    let solids = firsts(body, 160, elements);
+    let water = firsts(body, 168, elements);
+    let table_time = firsts(body, at, points);
+    let table_load = firsts(body, at + 8, points);
     Layer {
         frame: frame(body),
         progress: progress(body),

@@ -41,31 +41,13 @@ fn put_face(out: &mut [u8], at: usize, face: Face) -> usize
     }
 }
 
-// Stores an array without the zeros at its end, and gives the place after it.
-fn put_column(out: &mut [u8], at: usize, values: &[u64]) -> usize
+// Stores the numbers of an array without the zeros at its end, and gives the place after them.
+pub fn put_column(out: &mut [u8], at: usize, values: &[u64]) -> usize
     requires { at + 21 * length values.now ≤ length out.old }
     ensures put { Put (column_text values.now) out.old at out.new result }
     ensures upper_bound { result ≤ at + 21 * length values.now }
 {
     text::put_row(out, at, values, text::used(values))
-}
-
-// Stores the numbers of an array for elements.
-pub fn put_elements(out: &mut [u8], at: usize, heights: &[u64; 128]) -> usize
-    requires { at + 2_688 ≤ length out.old }
-    ensures put { Put (column_text heights.now) out.old at out.new result }
-    ensures upper_bound { result ≤ at + 2_688 }
-{
-    put_column(out, at, heights)
-}
-
-// Stores the numbers of an array for points.
-pub fn put_points(out: &mut [u8], at: usize, values: &[u64; 64]) -> usize
-    requires { at + 1_344 ≤ length out.old }
-    ensures put { Put (column_text values.now) out.old at out.new result }
-    ensures upper_bound { result ≤ at + 1_344 }
-{
-    put_column(out, at, values)
 }
 
 // Stores a load, a clock, both outflows and the starting water at the start of a buffer, and gives their length.
@@ -92,7 +74,7 @@ pub fn put_state(out: &mut [u8], of: Record) -> usize
     ensures upper_bound { result ≤ 2_796 }
 {
     let next = put_amounts(out, of.layer.progress, of.layer.frame.starting_water);
-    put_elements(out, next, &of.layer.water)
+    put_column(out, next, &of.layer.water)
 }
 
 // Stores four counts and a gravity at the start of a buffer, and gives their length.

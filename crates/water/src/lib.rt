@@ -22,6 +22,7 @@ pub fn new_water(water: u64, leaves: i64, enters: i64) -> i64
 }
 
 // The least water with which an element of so much solids reaches a void ratio.
+#[tactic(auto, unfolding(laws::specs::Bounds::lowest_water))]
 pub fn lowest_water(solids: u64, void: u64) -> u64
     requires { (solids ≤ solids_limits.most) × (void ≤ void_limits.most) }
     ensures { (result ≡ lowest_water solids void) × (result ≤ water_limits.most) }
@@ -30,6 +31,7 @@ pub fn lowest_water(solids: u64, void: u64) -> u64
 }
 
 // The most water with which it does not pass a void ratio.
+#[tactic(auto, unfolding(laws::specs::Bounds::highest_water))]
 pub fn highest_water(solids: u64, void: u64) -> u64
     requires solids_nonzero { (0 < solids) × (solids ≤ solids_limits.most) }
     requires void_le_most { void ≤ void_limits.most }
@@ -39,6 +41,7 @@ pub fn highest_water(solids: u64, void: u64) -> u64
 }
 
 // The bounds of the water of every element, on a curve from a least to a greatest void ratio.
+#[tactic(auto, using(numbers::proofs::Filled::filled_zero, numbers::proofs::Filled::filled_suc))]
 pub fn water_bounds<'a>(
     elements: usize,
     solids: &'a [u64; 128],
@@ -54,11 +57,9 @@ pub fn water_bounds<'a>(
     ensures low_after { low.new ≡ filled low.old elements (λ j. lowest_water (get_or solids.now j 0) least) }
     ensures high_after { high.new ≡ filled high.old elements (λ j. highest_water (get_or solids.now j 0) greatest) }
 {
-    let mut j: usize = 0;
-    while j < elements {
+    for j in 0..elements {
         low[j] = lowest_water(solids[j], least);
         high[j] = highest_water(solids[j], greatest);
-        j += 1;
     }
 }
 
@@ -85,14 +86,12 @@ pub fn stays_between<'a>(
     ensures { result ≡ every_index elements (stays_at lowest above.now water.now low.now high.now) }
 {
     let mut enters = lowest;
-    let mut j: usize = 0;
-    while j < elements {
+    for j in 0..elements {
         let leaves = above[j];
         if !between(low[j], high[j], new_water(water[j], leaves, enters)) {
             return false;
         }
         enters = leaves;
-        j += 1;
     }
     true
 }
@@ -106,11 +105,9 @@ pub fn move_water<'a>(elements: usize, lowest: i64, above: &'a [i64; 128], water
     ensures { water.new ≡ filled water.old elements (height_after lowest above.now water.old) }
 {
     let mut enters = lowest;
-    let mut j: usize = 0;
-    while j < elements {
+    for j in 0..elements {
         let leaves = above[j];
         water[j] = new_water(water[j], leaves, enters) as u64;
         enters = leaves;
-        j += 1;
     }
 }

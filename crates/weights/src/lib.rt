@@ -16,10 +16,8 @@ pub fn total_weight(elements: usize, gravity: u64, solids: &[u64; 128]) -> u64
     ensures { (result ≡ weight_from gravity elements solids.now 0) × (result ≤ most_total_weight) }
 {
     let mut total: u64 = 0;
-    let mut j: usize = 0;
-    while j < elements {
+    for j in 0..elements {
         total += element::buoyant_weight(gravity, solids[j]);
-        j += 1;
     }
     total
 }
@@ -33,11 +31,9 @@ pub fn burdens<'a>(elements: usize, gravity: u64, solids: &'a [u64; 128], burden
     ensures { burden.new ≡ filled burden.old elements (burden_at gravity elements solids.now) }
 {
     let mut over = total_weight(elements, gravity, solids);
-    let mut j: usize = 0;
-    while j < elements {
+    for j in 0..elements {
         let own = element::buoyant_weight(gravity, solids[j]);
         over -= own;
         burden[j] = over + own / 2;
-        j += 1;
     }
 }

@@ -12,8 +12,8 @@ use Rattle.rules.specs.Job.{Description, header_length, job_length}
 use Rattle.rules.specs.Opening.{accepted}
 use Rattle.rules.specs.Refusals.{refusal_number}
 use Rattle.rules.specs.Result.{Returned}
-use Rattle.rules.specs.declared.answers.Acceptance.{Acceptance}
-use Rattle.rules.specs.declared.answers.Acceptance.TheVariants.{Accepted, Refused}
+use Rattle.rules.specs.declared.answers.Accepted.{Accepted}
+use Rattle.std.specs.Prelude.{Result, Ok, Err}
 use Rattle.rules.specs.declared.answers.Refusal.{Refusal}
 use Rattle.rules.specs.declared.answers.Refusal.TheVariants.{ShortJobBuffer}
 use Rattle.rules.specs.declared.job.Header.{Header}
@@ -22,9 +22,6 @@ use Rattle.writer.proofs.RoundTrips.{round_trips}
 use Rattle.writer.proofs.Stores.{job_length_lem}
 use Rattle.writer.proofs.WritingLaws.{cause_writes, short_writes, room_writes}
 use Rattle.writer.specs.RoundTrips.{ReadAgain}
-use Rattle.writer.specs.declared.Written.{Written}
-use Rattle.writer.specs.declared.Written.TheVariants.{Length}
-use Rattle.writer.specs.declared.Written.TheVariants as written
 use Rattle.writer.specs.Writing.{Writing, job_bytes, writing, written_number, writing_number}
 
 -- the number of every refusal is below a header's length, and no job is shorter than that
@@ -63,9 +60,9 @@ module _ (buffer : List ℕ) where
   unfolding written_number
   told d = go (accepted d) refl
     where
-      go : (a : Acceptance) → accepted d ≡ a → Told buffer (returned (writing d buffer))
-      go (Refused cause) e = rw (cause_writes d buffer e) (told_refused cause)
-      go (Accepted frame progress) e =
+      go : (a : Result Accepted Refusal) → accepted d ≡ a → Told buffer (returned (writing d buffer))
+      go (Err cause) e = rw (cause_writes d buffer e) (told_refused cause)
+      go (Ok layer) e =
           elim (dec_le (job_length d.header) (length buffer)) [
             | yes h ↦ rw (room_writes d buffer e h) (told_written d h)
             | no n ↦ rw (short_writes d buffer e (omega arith)) (told_refused ShortJobBuffer)
@@ -88,10 +85,10 @@ returned_trips words buffer =
           let (answer, after) = trips.read_then_written job are done alike room in (ap written_number answer, after);
     }
   where
-    read : (answer : Written) → (writing (words_description words) buffer).answer ≡ answer → header_length ≤ written_number (writing (words_description words) buffer).answer →
+    read : (answer : Result ℕ Refusal) → (writing (words_description words) buffer).answer ≡ answer → header_length ≤ written_number (writing (words_description words) buffer).answer →
         ReadAgain (words_description words) (take (written_number (writing (words_description words) buffer).answer) (writing (words_description words) buffer).buffer)
-    read (Length size) e h = rw (e, written_number) ((round_trips (words_description words) buffer).written_then_read size e)
-    read (written.Refused cause) e h =
+    read (Ok size) e h = rw (e, written_number) ((round_trips (words_description words) buffer).written_then_read size e)
+    read (Err cause) e h =
         let (_, most) = cause_numbered cause in
         let number_is = ap written_number e in
         absurd (omega arith)

@@ -6,8 +6,8 @@ ghost use Rattle.std.specs.Prelude.{length, get_or, ◌≡◌, ◌+◌, ◌≤�
 ghost use Rattle.words.specs.Words.{words_length, places_from, words_header, written_words, WordsTrips};
 ghost use Rattle.writer.specs.Writing.{written_number};
 
+use rules::answers::Refusal;
 use rules::job::Header;
-use writer::Written;
 
 pub mod bytes;
 
@@ -36,6 +36,7 @@ pub fn word(words: &[u64], i: usize) -> u64
 }
 
 // The header of words 0 to 11.
+#[tactic(auto, unfolding(crate::specs::Words::words_header))]
 pub fn read_header(words: &[u64]) -> Header
     ensures { result ≡ words_header words.now }
 {
@@ -60,20 +61,19 @@ pub fn read_places(words: &[u64], at: usize, numbers: &mut [u64])
     requires { at + length numbers.old ≤ words_length }
     ensures { numbers.new ≡ places_from at (length numbers.old) words.now }
 {
-    let mut i: usize = 0;
-    while i < numbers.len() {
+    for i in 0..numbers.len() {
         numbers[i] = word(words, at + i);
-        i += 1;
     }
 }
 
 // An answer of the writer as one number.
-pub fn written_number(written: Written) -> u64
+#[tactic(auto, unfolding(writer::specs::Writing::written_number))]
+pub fn written_number(written: Result<usize, Refusal>) -> u64
     ensures { result ≡ written_number written }
 {
     match written {
-        Written::Length(length) => length as u64,
-        Written::Refused(cause) => answers::refusal_number(cause),
+        Ok(length) => length as u64,
+        Err(cause) => answers::refusal_number(cause),
     }
 }
 

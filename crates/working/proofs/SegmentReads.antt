@@ -11,8 +11,8 @@ use Rattle.curves.specs.Named.{point_in}
 use Rattle.laws.specs.Segment.{OnSegment}
 use Rattle.numbers.proofs.Filled.{get_or-tabulate}
 use Rattle.numbers.proofs.Searches.{passed, is_true}
-use Rattle.quantities.specs.declared.CurveValue.{CurveValue}
-use Rattle.quantities.specs.declared.CurveValue.TheVariants.{On, Off}
+use Rattle.quantities.specs.Quantities.{CurveValue}
+use Rattle.std.specs.Prelude.{None, Some}
 use Rattle.rules.proofs.Points.{at}
 use Rattle.rules.specs.Curve.{Point, point, points, spans, curve_at, segment_at, curve_remainder, interpolation_remainder, is_on, value_of}
 use Rattle.rules.specs.Layer.{skeleton_of, void_ratio, effective_stress}
@@ -20,10 +20,10 @@ use Rattle.working.specs.Segments.{SegmentDivides, ReadingDivides}
 use Rattle.working.specs.Working.{curve_reading}
 
 -- a value on the curve
-pub on_is : (v : CurveValue) → is_on v ≡ true → v ≡ On (value_of v)
+pub on_is : (v : CurveValue) → is_on v ≡ true → v ≡ Some (value_of v)
 unfolding is_on value_of
-on_is (On y) e = refl
-on_is Off e = absurd (passed e)
+on_is (Some y) e = refl
+on_is None e = absurd (passed e)
 
 -- segment i of a curve is the one that is read at x
 pub record SegmentRead (curve : List Point) (x i : ℕ) (d : Point) : Type 0 where

@@ -41,11 +41,6 @@ face_stored t face out at first third fourth difference-is flow_is left_is =
     rw (first ∙ ap signed_field difference-is, third ∙ ap signed_field flow_is, fourth ∙ ap signed_field left_is)
     (four_stores out at (signed_field face.difference) face.resistance (signed_field (flow_at t face)) (signed_field (remainder_at t face)))
 
--- two words before the rest
-pub headed : (out words : List ℕ) (a b : ℕ) {count : ℕ} {last : List ℕ} → count ≡ a → last ≡ sets (set (set out 0 count) 1 b) 2 words →
-    last ≡ sets out 0 (a ∷ b ∷ words)
-headed out words a b count-is last-is = rw (← count-is) last-is
-
 -- an element's nine words
 pub element_stored : (soil : Soil) (S W after at : ℕ) (out : List ℕ) {E : ℕ} {stress conductivity : CurveReading} {a b c : List ℕ} →
     E ≡ void_ratio S W → stress ≡ curve_reading (compressibility_points soil) E → conductivity ≡ curve_reading (conductivity_points soil) E →

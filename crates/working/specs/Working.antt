@@ -1,6 +1,6 @@
 -- The working of a step as a grader writes it out, in words of 64 bits.
 use Rattle.std.specs.Prelude.{ℕ, ◌+◌, length, get_or, List, [], ◌∷◌, ◌++◌, map}
-use Rattle.std.proofs.Math.Option.{none, some}
+use Rattle.std.specs.Prelude.{None, Some}
 use Rattle.numbers.specs.Arrays.{tabulate, overlaid}
 use Rattle.numbers.specs.Integers.{signed_field}
 use Rattle.numbers.specs.Lists.{appended}
@@ -15,8 +15,8 @@ use Rattle.rules.specs.declared.faces.OpenFace.{OpenFace}
 use Rattle.rules.specs.declared.record.Record.{Record}
 use Rattle.rules.specs.declared.record.Soil.{Soil}
 use Rattle.working.specs.declared.CurveReading.{CurveReading}
-use Rattle.working.specs.declared.Worked.{Worked}
-use Rattle.working.specs.declared.Worked.TheVariants.{Words, Refused}
+use Rattle.rules.specs.declared.answers.Refusal.{Refusal}
+use Rattle.std.specs.Prelude.{Result, Ok, Err}
 
 -- the long division of t seconds at a face: difference, R, flow, remainder
 abbrev pub face_words : (t : ℕ) → OpenFace → List ℕ
@@ -63,7 +63,7 @@ working_words r t = words_between r (called r (Step t)).after t
 
 -- what the call answers, and the buffer after it
 pub record Working : Type 0 where
-  pub answer : Worked
+  pub answer : Result ℕ Refusal
   pub words : List ℕ
 
 -- it is refused as that step is, and then all places stay; otherwise the words go to the first places
@@ -71,6 +71,6 @@ unfoldable pub working : Record → (t : ℕ) (out : List ℕ) → Working
 unfolding called refusal_of working_words overlaid
 working r t out =
     elim (refusal_of (called r (Step t)).answer) [
-      | some cause ↦ record { answer = Refused cause; words = out }
-      | none ↦ record { answer = Words (length (working_words r t)); words = overlaid (working_words r t) out }
+      | Some cause ↦ record { answer = Err cause; words = out }
+      | None ↦ record { answer = Ok (length (working_words r t)); words = overlaid (working_words r t) out }
     ]

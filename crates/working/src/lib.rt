@@ -37,20 +37,13 @@ pub struct CurveReading {
     pub remainder: u64,
 }
 
-// What the call answers: how many words there are, or a refusal.
-#[derive(Clone, Copy)]
-pub enum Worked {
-    Words(usize),
-    Refused(Refusal),
-}
-
 // What the interpolation at x leaves on a segment.
 pub fn interpolation_remainder(x0: u64, y0: u64, x1: u64, y1: u64, x: u64) -> u64
     requires x1_nonzero { (0 < distance x0 x1) × (distance x0 x ≤ void_limits.most) }
     requires y0_le_y1 { (y0 ≤ y1) × (y1 ≤ stress_limits.most) }
     ensures { SegmentDivides (point x0 y0) (point x1 y1) x (interpolated (point x0 y0) (point x1 y1) x) result }
 {
-    (y1 - y0) * numbers::distance(x0, x) % numbers::distance(x0, x1)
+    (y1 - y0) * x0.abs_diff(x) % x0.abs_diff(x1)
 }
 
 // Reads a curve at x, which is on it.
@@ -118,11 +111,9 @@ pub fn put_faces<'a>(
     let count = open_faces::face_count(elements, top, bottom);
     out[0] = count as u64;
     out[1] = elements as u64;
-    let mut k: usize = 0;
-    while k < count {
+    for k in 0..count {
         let face = open_faces::face_at(elements, top, bottom, excess, resistance, k);
         put_face(face, t, 2 + 4 * k, out);
-        k += 1;
     }
     count
 }
@@ -189,6 +180,7 @@ pub fn put_element(soil: Soil, solids: u64, water: u64, after: u64, at: usize, o
 }
 
 // Stores the words of every element from a place on, the lowest first.
+#[tactic(auto, using(lent::proofs::Standing::counted))]
 pub fn put_elements(r: Record, after: Record, at: usize, out: &mut [u64])
     requires r_value { is_layer r ≡ true }
     requires elements_in_bounds { at + 9 * r.layer.frame.elements ≤ length out.old }
@@ -199,10 +191,8 @@ pub fn put_elements(r: Record, after: Record, at: usize, out: &mut [u64])
     let solids = r.layer.solids;
     let water = r.layer.water;
     let moved = after.layer.water;
-    let mut j: usize = 0;
-    while j < elements {
+    for j in 0..elements {
         put_element(soil, solids[j], water[j], moved[j], at + 9 * j, out);
-        j += 1;
     }
 }
 
@@ -221,7 +211,7 @@ pub fn put_words(r: Record, after: Record, t: u64, out: &mut [u64]) -> usize
 
 // The working of a step of t seconds on any record, in the first places; refused as that step is, and then all places are as they
 // were. No record changes.
-pub fn work_out(r: Record, t: u64, out: &mut [u64]) -> Worked
+pub fn work_out(r: Record, t: u64, out: &mut [u64]) -> Result<usize, Refusal>
     requires { 1_670 ≤ length out.old }
     ensures value { result ≡ (working r t out.old).answer }
     ensures out_after { out.new ≡ (working r t out.old).words }
@@ -231,9 +221,9 @@ pub fn work_out(r: Record, t: u64, out: &mut [u64]) -> Worked
     match answer {
         Answer::Done => {
             let after = stepped.after;
-            Worked::Words(put_words(r, after, t, out))
+            Ok(put_words(r, after, t, out))
         }
-        Answer::Ran(_, _) => Worked::Words(0),
-        Answer::Refused(cause) => Worked::Refused(cause),
+        Answer::Ran(_, _) => Ok(0),
+        Answer::Refused(cause) => Err(cause),
     }
 }

@@ -4,7 +4,7 @@ use lib.Dec.{eqb}
 use lib.ListN.{get_or}
 use mathlib.Core.Bool.{cond, not, ◌&&◌, ◌||◌}
 use mathlib.Core.List.{List, [], ◌∷◌, ◌++◌}
-use mathlib.Core.Option.{none, some}
+use Rattle.std.specs.Prelude.{None, Some}
 use mathlib.Core.Path.{◌≡◌, refl, sym, ap}
 use Rattle.numbers.specs.Arrays.{filled, first_places, zeros}
 use Rattle.numbers.specs.Bytes.{column}
@@ -21,7 +21,9 @@ use Rattle.rules.specs.Record.{progress_of, sizes_sound}
 use Rattle.rules.specs.Refusals.{◌if◌, first_cause}
 use Rattle.rules.specs.Start.{opening_load, opening_state, rests_over, start_water}
 use Rattle.rules.specs.Steady.{steady}
-use Rattle.rules.specs.declared.answers.Acceptance.{Acceptance}
+use Rattle.rules.specs.declared.answers.Refusal.{Refusal}
+use Rattle.rules.specs.declared.answers.Accepted.{Accepted}
+use Rattle.std.specs.Prelude.{Result, Ok, Err}
 use Rattle.rules.specs.declared.answers.Refusal.TheVariants.{HeaderOutside, FieldOutside, CompressibilityCurve, ConductivityCurve, LoadTable, StartNotSteady, StartOffCurve}
 use Rattle.writer.specs.RoundTrips.{up_to, up_to_counts}
 use Rattle.writer.specs.Writing.{header_bytes, job_bytes, pair_bytes, pairs_bytes}
@@ -129,18 +131,18 @@ module _ (d e : Description) (header : e.header ≡ d.header) (site : job_site e
   unfolding started
   started_alike = λ i.
       elim (water_alike i) as (λ _. Started) [
-        | none ↦ not_started StartOffCurve
-        | some water ↦ cond (steady_alike water i) (started_with water) (not_started StartNotSteady)
+        | None ↦ not_started StartOffCurve
+        | Some water ↦ cond (steady_alike water i) (started_with water) (not_started StartNotSteady)
       ]
 
   accepted_alike : accepted e ≡ accepted d
   unfolding accepted
   accepted_alike = λ i.
-      elim (first_cause (causes_alike i)) as (λ _. Acceptance) [
-        | some cause ↦ Acceptance.Refused cause
-        | none ↦ elim (started_alike i) as (λ _. Acceptance) [
-          | not_started cause ↦ Acceptance.Refused cause
-          | started_with water ↦ Acceptance.Accepted (frame_of (header i) (sum water)) (progress_of (opening_state (site i) water))
+      elim (first_cause (causes_alike i)) as (λ _. Result Accepted Refusal) [
+        | Some cause ↦ Err cause
+        | None ↦ elim (started_alike i) as (λ _. Result Accepted Refusal) [
+          | not_started cause ↦ Err cause
+          | started_with water ↦ Ok (record { frame = frame_of (header i) (sum water); progress = progress_of (opening_state (site i) water) })
         ]
       ]
 

@@ -5,26 +5,24 @@ use borrow.Author.Tests.{eq-eqb, le-ltb}
 use lib.ListN.{length}
 use mathlib.Core.Bool.{true, false}
 use mathlib.Core.List.{List, [], ◌++◌, append_assoc, append-nil}
-use mathlib.Core.Option.{none}
+use Rattle.std.specs.Prelude.{None}
 use mathlib.Core.Path.{◌≡◌, refl, sym, ap, ◌∙◌}
-use Rattle.acceptance.proofs.AcceptingLaws.{accepted_none, header_within, unstarted_accepts, refused-accepted}
+use Rattle.acceptance.proofs.AcceptingLaws.{accepted_none, header_within, unstarted_accepts}
 use Rattle.acceptance.proofs.SoundDescription.{fields, heights_kept, levels_kept}
 use Rattle.claims.proofs.StartedParts.{started_parts}
 use Rattle.description.proofs.Checking.{none_tests}
 use Rattle.job.specs.Framing.{framing}
-use Rattle.job.specs.declared.framing.Framed.TheVariants.{Sound}
+use Rattle.std.specs.Prelude.{Ok}
 use Rattle.job.proofs.FramingLaws.{all_passed, framed_rest, is_short, is_other, is_outside, is_wrong}
 use Rattle.numbers.specs.Bytes.{field}
 use Rattle.rules.proofs.Sound.{compressible, conductive}
 use Rattle.rules.specs.Job.{Description, described, described_causes, header_length, header_sound, job_causes, job_length, job_site, marked, pair_length}
 use Rattle.rules.specs.Opening.{Started, started_with, not_started, accepted, layer_causes, opened_record, opening, started}
 use Rattle.rules.specs.Refusals.{first_cause}
-use Rattle.rules.specs.declared.answers.Acceptance.TheVariants.{Accepted}
+use Rattle.rules.specs.declared.answers.Accepted.{Accepted}
 use Rattle.rules.specs.declared.answers.Answer.TheVariants.{Done}
 use Rattle.rules.specs.declared.answers.Answered.{Answered}
 use Rattle.rules.specs.declared.job.Header.{Header}
-use Rattle.rules.specs.declared.record.Frame.{Frame}
-use Rattle.rules.specs.declared.record.Progress.{Progress}
 use Rattle.table.proofs.Laws.{tabled}
 use Rattle.writer.specs.RoundTrips.{ReadAgain, up_to_counts}
 use Rattle.writer.specs.Writing.{header_bytes, job_bytes, pairs_bytes}
@@ -33,7 +31,7 @@ use Rattle.writer.proofs.Fields.{header_again, marked_again, pairs_again, unused
 use Rattle.writer.proofs.Stores.{compressibility_length, conductivity_length, elements_length, header_length_lem, job_length_lem, through_compressibility, through_conductivity, through_elements}
 use Rattle.writer.proofs.WritingLaws.{accepted_header}
 
-module _ (d : Description) {frame : Frame} {progress : Progress} (is : accepted d ≡ Accepted frame progress) where
+module _ (d : Description) {layer : Accepted} (is : accepted d ≡ Ok layer) where
   abbrev h : Header
   h = d.header
 
@@ -45,10 +43,10 @@ module _ (d : Description) {frame : Frame} {progress : Progress} (is : accepted 
   sound_header : header_sound h ≡ true
   sound_header = accepted_header d is
 
-  no_cause : first_cause (layer_causes d) ≡ none
-  no_cause = accepted_none d frame progress is
+  no_cause : first_cause (layer_causes d) ≡ None
+  no_cause = accepted_none d is
 
-  sound : first_cause (described_causes d) ≡ none
+  sound : first_cause (described_causes d) ≡ None
   sound = sym (header_within d sound_header) ∙ no_cause
 
   -- ---- its parts
@@ -156,7 +154,7 @@ module _ (d : Description) {frame : Frame} {progress : Progress} (is : accepted 
 
   -- ---- and none of the causes holds of them
 
-  frames : framing job ≡ Sound (described job).header
+  frames : framing job ≡ Ok (described job).header
   unfolding job_length
   frames = all_passed job short other outside wrong
     where
@@ -172,7 +170,7 @@ module _ (d : Description) {frame : Frame} {progress : Progress} (is : accepted 
       wrong : is_wrong job ≡ false
       wrong = rw (header_is, eq-eqb (length job) (job_length h) (job_length_lem d))
 
-  none_holds : first_cause (job_causes job) ≡ none
+  none_holds : first_cause (job_causes job) ≡ None
   unfolding up_to_counts
   none_holds =
       framed_rest job (described job).header frames ∙ ap (λ (e : Description). first_cause (described_causes e)) described_again ∙
@@ -185,7 +183,7 @@ module _ (d : Description) {frame : Frame} {progress : Progress} (is : accepted 
     where
       go : (o : Started) → started d ≡ o → (water : List ℕ) × (started d ≡ started_with water)
       go (started_with water) e = (water, e)
-      go (not_started cause) e = absurd (refused-accepted cause frame progress ((unstarted_accepts d no_cause cause e).answers ∙ is))
+      go (not_started cause) e = let no = (unstarted_accepts d no_cause cause e).answers ∙ is in cc
 
   opens : (water : List ℕ) → started d ≡ started_with water → opening job ≡ record { answer = Done; after = opened_record (described job) water }
   unfolding opening

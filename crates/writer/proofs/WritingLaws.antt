@@ -10,21 +10,19 @@ use Rattle.job.proofs.FirstCause.{none_some}
 use Rattle.numbers.specs.Arrays.{overlaid}
 use Rattle.rules.specs.Job.{Description, header_sound, job_length}
 use Rattle.rules.specs.Opening.{accepted}
-use Rattle.rules.specs.declared.answers.Acceptance.TheVariants.{Accepted, Refused}
+use Rattle.rules.specs.declared.answers.Accepted.{Accepted}
+use Rattle.std.specs.Prelude.{Ok, Err}
 use Rattle.rules.specs.declared.answers.Refusal.{Refusal}
 use Rattle.rules.specs.declared.answers.Refusal.TheVariants.{HeaderOutside, ShortJobBuffer}
-use Rattle.rules.specs.declared.record.Frame.{Frame}
-use Rattle.rules.specs.declared.record.Progress.{Progress}
 use Rattle.writer.specs.Writing.{job_bytes, refused_writing, writing}
-use Rattle.writer.specs.declared.Written.TheVariants.{Length}
 
 module _ (d : Description) (buffer : List ℕ) where
   -- one of the causes 3, 5 to 9 and 20
-  pub cause_writes : {cause : Refusal} → accepted d ≡ Refused cause → writing d buffer ≡ refused_writing cause buffer
+  pub cause_writes : {cause : Refusal} → accepted d ≡ Err cause → writing d buffer ≡ refused_writing cause buffer
   unfolding writing
   cause_writes e = rw (e, writing)
 
-  module _ {frame : Frame} {progress : Progress} (e : accepted d ≡ Accepted frame progress) where
+  module _ {layer : Accepted} (e : accepted d ≡ Ok layer) where
     -- cause 17
     pub short_writes : length buffer < job_length d.header → writing d buffer ≡ refused_writing ShortJobBuffer buffer
     unfolding writing
@@ -32,14 +30,14 @@ module _ (d : Description) (buffer : List ℕ) where
 
     -- none
     pub room_writes : job_length d.header ≤ length buffer →
-        writing d buffer ≡ record { answer = Length (job_length d.header); buffer = overlaid (job_bytes d) buffer }
+        writing d buffer ≡ record { answer = Ok (job_length d.header); buffer = overlaid (job_bytes d) buffer }
     unfolding writing
     room_writes h = rw (e, writing, le-ltb (length buffer) (job_length d.header) h)
 
 -- the header of an accepted description keeps its limits
-pub accepted_header : (d : Description) {frame : Frame} {progress : Progress} → accepted d ≡ Accepted frame progress → header_sound d.header ≡ true
-accepted_header d {frame} {progress} e = go (header_sound d.header) refl
+pub accepted_header : (d : Description) {layer : Accepted} → accepted d ≡ Ok layer → header_sound d.header ≡ true
+accepted_header d e = go (header_sound d.header) refl
   where
     go : (kept : Bool) → header_sound d.header ≡ kept → header_sound d.header ≡ true
     go true k = k
-    go false k = absurd (none_some HeaderOutside (sym (accepted_none d frame progress e) ∙ header_outside d k))
+    go false k = absurd (none_some HeaderOutside (sym (accepted_none d e) ∙ header_outside d k))

@@ -11,7 +11,7 @@ use Rattle.acceptance.proofs.AcceptingLaws.{header_within, start_accepts}
 use Rattle.claims.proofs.Opened.{opened}
 use Rattle.claims.proofs.Starts.{steady-started}
 use Rattle.job.specs.Framing.{framing}
-use Rattle.job.specs.declared.framing.Framed.TheVariants.{Sound}
+use Rattle.std.specs.Prelude.{Ok}
 use Rattle.job.proofs.FramingLaws.{framed_kept, framed_length, framed_rest, long, mark_there, none_framed, tests, unused_zero, version_there}
 use Rattle.numbers.specs.Arrays.{zeros}
 use Rattle.numbers.specs.Bytes.{AreBytes, bytes, column, field}
@@ -21,11 +21,9 @@ use Rattle.numbers.proofs.LittleEndian.{bytes-field}
 use Rattle.numbers.proofs.Searches.{both, passed}
 use Rattle.rules.specs.Job.{Description, described, firsts, header_length, job_length, marked, pair_length, seconds}
 use Rattle.rules.specs.Opening.{accepted, opening}
-use Rattle.rules.specs.declared.answers.Acceptance.TheVariants.{Accepted}
+use Rattle.rules.specs.declared.answers.Accepted.{Accepted}
 use Rattle.rules.specs.declared.answers.Answer.TheVariants.{Done}
 use Rattle.rules.specs.declared.job.Header.{Header}
-use Rattle.rules.specs.declared.record.Frame.{Frame}
-use Rattle.rules.specs.declared.record.Progress.{Progress}
 use Rattle.writer.specs.Writing.{header_bytes, job_bytes, pair_bytes, pairs_bytes}
 use Rattle.writer.proofs.Stores.{pair_at}
 
@@ -77,7 +75,7 @@ module _ (job : List ℕ) (are : AreBytes job) where
     abbrev h : Header
     h = d.header
 
-    framed : framing job ≡ Sound h
+    framed : framing job ≡ Ok h
     framed = none_framed job (opened job done).no_cause
 
     sized : length job ≡ job_length h
@@ -129,8 +127,8 @@ module _ (job : List ℕ) (are : AreBytes job) where
         table ∙ take_all (table_at + pair_length * t) job (omega (arith, sized))
 
     -- and what it says is accepted
-    pub accepted_again : (frame : Frame) × (progress : Progress) × (accepted d ≡ Accepted frame progress)
+    pub accepted_again : (layer : Accepted) × (accepted d ≡ Ok layer)
     accepted_again =
         let o = opened job done in
-        let None-first = header_within d (framed_kept job h framed) ∙ sym (framed_rest job h framed) ∙ o.no_cause in
-        (_, _, sym (start_accepts d None-first o.water (steady-started d o.water o.starts o.steadied)).answers)
+        let none-first = header_within d (framed_kept job h framed) ∙ sym (framed_rest job h framed) ∙ o.no_cause in
+        (_, sym (start_accepts d none-first o.water (steady-started d o.water o.starts o.steadied)).answers)

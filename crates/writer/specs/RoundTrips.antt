@@ -1,13 +1,13 @@
 -- Document 02, note 1: a job that was written is read again, and a job that was read is written again.
 use Rattle.std.specs.Prelude.{ℕ, ◌≤◌, length, take, get_or, List, ◌≡◌}
-use Rattle.std.proofs.Math.Option.{some}
+use Rattle.std.specs.Prelude.{Some}
 use Rattle.numbers.specs.Arrays.{zeros, filled, overlaid}
 use Rattle.numbers.specs.Bytes.{AreBytes}
 use Rattle.rules.specs.Job.{Description, described}
 use Rattle.rules.specs.Opening.{description_water, opened_record, opening}
 use Rattle.rules.specs.declared.answers.Answer.TheVariants.{Done}
-use Rattle.writer.specs.declared.Written.{Written}
-use Rattle.writer.specs.declared.Written.TheVariants.{Length}
+use Rattle.rules.specs.declared.answers.Refusal.{Refusal}
+use Rattle.std.specs.Prelude.{Result, Ok}
 
 -- an array of so many places with the first numbers of another, and 0 past them
 unfoldable pub up_to : (size count : ℕ) → List ℕ → List ℕ
@@ -33,13 +33,13 @@ pub record ReadAgain (d : Description) (job : List ℕ) : Type 0 where
   pub described_again : described job ≡ up_to_counts d
   pub accepted_again : (opening job).answer ≡ Done
   pub water : List ℕ
-  pub started_again : description_water d ≡ some water
+  pub started_again : description_water d ≡ Some water
   pub opened_again : (opening job).after ≡ opened_record (up_to_counts d) water
 
 -- both ways, of a description that was handed to the writer with a buffer, of its answer and of the buffer after it
-pub record RoundTrips (d : Description) (before : List ℕ) (answer : Written) (after : List ℕ) : Type 0 where
+pub record RoundTrips (d : Description) (before : List ℕ) (answer : Result ℕ Refusal) (after : List ℕ) : Type 0 where
   -- what is written is read again
-  pub written_then_read : (size : ℕ) → answer ≡ Length size → ReadAgain d (take size after)
+  pub written_then_read : (size : ℕ) → answer ≡ Ok size → ReadAgain d (take size after)
   -- a job of bytes that opening accepts is written again from what it says, to the last byte
   pub read_then_written : (job : List ℕ) → AreBytes job → (opening job).answer ≡ Done → up_to_counts (described job) ≡ up_to_counts d →
-      length job ≤ length before → (answer ≡ Length (length job)) × (after ≡ overlaid job before)
+      length job ≤ length before → (answer ≡ Ok (length job)) × (after ≡ overlaid job before)

@@ -7,12 +7,10 @@ use Rattle.rules.specs.Job.{Description, job_length}
 use Rattle.rules.specs.Opening.{accepted}
 use Rattle.rules.specs.Refusals.{refusal_number}
 use Rattle.rules.specs.Result.{word}
-use Rattle.rules.specs.declared.answers.Acceptance.TheVariants as acceptance
+use Rattle.std.specs.Prelude.{Result, Ok, Err}
 use Rattle.rules.specs.declared.answers.Refusal.{Refusal}
 use Rattle.rules.specs.declared.answers.Refusal.TheVariants.{ShortJobBuffer}
 use Rattle.rules.specs.declared.job.Header.{Header}
-use Rattle.writer.specs.declared.Written.{Written}
-use Rattle.writer.specs.declared.Written.TheVariants.{Length, Refused}
 
 -- bytes 0 to 15: L S C, version 1, both faces, the four counts, the start, the specific gravity, and zeros
 abbrev pub before_levels : Header → List ℕ
@@ -48,29 +46,29 @@ job_bytes d =
 
 -- what the writer answers, and the buffer as it is left
 pub record Writing : Type 0 where
-  pub answer : Written
+  pub answer : Result ℕ Refusal
   pub buffer : List ℕ
 
 abbrev pub refused_writing : Refusal → (buffer : List ℕ) → Writing
-refused_writing cause buffer = record { answer = Refused cause; buffer = buffer }
+refused_writing cause buffer = record { answer = Err cause; buffer = buffer }
 
 -- refused for the causes 3, 5 to 9 and 20, then for 17; otherwise the job's bytes in the first places, and their length
 unfoldable pub writing : Description → (buffer : List ℕ) → Writing
 unfolding accepted job_length job_bytes overlaid
 writing d buffer =
     elim (accepted d) [
-      | acceptance.Refused cause ↦ refused_writing cause buffer
-      | acceptance.Accepted frame progress ↦ elim (ltb (length buffer) (job_length d.header)) [
+      | Err cause ↦ refused_writing cause buffer
+      | Ok layer ↦ elim (ltb (length buffer) (job_length d.header)) [
         | true ↦ refused_writing ShortJobBuffer buffer
-        | false ↦ record { answer = Length (job_length d.header); buffer = overlaid (job_bytes d) buffer }
+        | false ↦ record { answer = Ok (job_length d.header); buffer = overlaid (job_bytes d) buffer }
       ]
     ]
 
 -- an answer as one number: the job's length, or the paper's number of the refusal
-unfoldable pub written_number : Written → ℕ
+unfoldable pub written_number : Result ℕ Refusal → ℕ
 unfolding refusal_number
-written_number (Length length) = length
-written_number (Refused cause) = refusal_number cause
+written_number (Ok length) = length
+written_number (Err cause) = refusal_number cause
 
 unfoldable pub writing_number : Description → (buffer : List ℕ) → ℕ
 unfolding writing written_number

@@ -10,6 +10,7 @@ use job::header::{HEADER_LENGTH, PAIR_LENGTH};
 use rules::job::Header;
 
 // Stores bytes 0 to 15: the mark, the version, and the fields of one and two bytes.
+#[tactic(auto, unfolding(numbers::specs::Bytes::bytes))]
 pub fn write_start(out: &mut [u8], header: Header)
     requires { 16 ≤ length out.old }
     ensures { out.new ≡ sets out.old 0 (before_levels header) }
@@ -54,18 +55,18 @@ pub fn put_pair(out: &mut [u8], at: usize, first: u64, second: u64)
 }
 
 // Stores so many pairs, from the first places of two arrays.
+#[tactic(auto, using(crate::proofs::Stores::pairs_stored), unfolding(crate::specs::Writing::pairs_bytes))]
 pub fn put_pairs<'a>(out: &mut [u8], at: usize, count: usize, firsts: &'a [u64], seconds: &'a [u64])
     requires { (count ≤ length firsts.now) × (count ≤ length seconds.now) × (at + pair_length * count ≤ length out.old) }
     ensures { out.new ≡ sets out.old at (pairs_bytes count firsts.now seconds.now) }
 {
-    let mut i: usize = 0;
-    while i < count {
+    for i in 0..count {
         put_pair(out, at + PAIR_LENGTH * i, firsts[i], seconds[i]);
-        i += 1;
     }
 }
 
 // Stores all bytes of a job that has room, at the beginning of a buffer.
+#[tactic(auto, using(job::proofs::Counts::counted))]
 pub fn write_bytes<'a>(
     header: Header,
     void: &'a [u64; 64],

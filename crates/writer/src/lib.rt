@@ -9,19 +9,12 @@ ghost use Rattle.writer.specs.RoundTrips.{RoundTrips};
 ghost use Rattle.writer.specs.Writing.{writing, written_number, writing_number};
 
 use job::header;
-use rules::answers::{Acceptance, Refusal};
+use rules::answers::Refusal;
 use rules::job::Header;
 
 pub mod bytes;
 
-// What the writer answers: the job's length, or a refusal.
-#[derive(Clone, Copy)]
-pub enum Written {
-    Length(usize),
-    Refused(Refusal),
-}
-
-// Writes the job of a description at the beginning of a buffer: refused for the causes 3, 5 to 9 and 20, then 17, and the buffer is as
+// Writes the job of a description at the beginning of a buffer, and gives its length: refused for the causes 3, 5 to 9 and 20, then 17, and the buffer is as
 // it was; bytes past the job are as they were. The water is written as it is given, whatever the start. What is written is
 // read again, and what was read is written again.
 pub fn write_job<'a>(
@@ -35,7 +28,7 @@ pub fn write_job<'a>(
     table_time: &'a [u64; 64],
     table_load: &'a [u64; 64],
     out: &mut [u8],
-) -> Written
+) -> Result<usize, Refusal>
     requires water_len { length water.now ≡ 128 }
     ensures value { let d : Description = description_of header void.now stress.now conductivity_void.now conductivity.now solids.now water.now table_time.now table_load.now in result ≡ (writing d out.old).answer }
     ensures out_after { let d : Description = description_of header void.now stress.now conductivity_void.now conductivity.now solids.now water.now table_time.now table_load.now in out.new ≡ (writing d out.old).buffer }
@@ -44,7 +37,7 @@ pub fn write_job<'a>(
 {
     let mut started = *water;
     let mut burden = [0; 128];
-    let accepted = acceptance::accept(
+    acceptance::accept(
         header,
         void,
         stress,
@@ -55,27 +48,22 @@ pub fn write_job<'a>(
         table_time,
         table_load,
         &mut burden,
-    );
-    match accepted {
-        Acceptance::Refused(cause) => Written::Refused(cause),
-        Acceptance::Accepted(_, _) => {
-            let length = header::job_length(header);
-            if out.len() < length {
-                return Written::Refused(Refusal::ShortJobBuffer);
-            }
-            bytes::write_bytes(
-                header,
-                void,
-                stress,
-                conductivity_void,
-                conductivity,
-                solids,
-                water,
-                table_time,
-                table_load,
-                out,
-            );
-            Written::Length(length)
-        }
+    )?;
+    let length = header::job_length(header);
+    if out.len() < length {
+        return Err(Refusal::ShortJobBuffer);
     }
+    bytes::write_bytes(
+        header,
+        void,
+        stress,
+        conductivity_void,
+        conductivity,
+        solids,
+        water,
+        table_time,
+        table_load,
+        out,
+    );
+    Ok(length)
 }

@@ -1,11 +1,9 @@
-use borrow.Author.Rules.{rules}
-use borrow.Author.Tests.{not-true, not-false}
 use Prim.Native.Nat.{ℕ, ◌≤◌}
 use native.Mathlib.Omega.{arith}
 use lib.ListN.{length}
 use mathlib.Core.Bool.{true, false}
 use mathlib.Core.List.{List}
-use mathlib.Core.Option.{none}
+use Rattle.std.specs.Prelude.{None}
 use mathlib.Core.Path.{◌≡◌, ap, ◌∙◌}
 use Rattle.acceptance.proofs.AcceptingLaws.{Accepts, burdens_in}
 use Rattle.acceptance.proofs.SoundDescription as sound
@@ -14,7 +12,7 @@ use Rattle.numbers.specs.Arrays.{first_places}
 use Rattle.numbers.specs.Sums.{sum}
 use Rattle.rules.specs.Job.{Description, described_causes, frame_of, header_sound}
 use Rattle.rules.specs.Refusals.{first_cause}
-use Rattle.rules.specs.declared.answers.Acceptance.TheVariants.{Accepted, Refused}
+use Rattle.std.specs.Prelude.{Ok, Err}
 use Rattle.rules.specs.declared.answers.Refusal.TheVariants.{StartNotSteady, StartOffCurve}
 use Rattle.acceptance.proofs.accept_start.Goals as goal
 use Rattle.acceptance.proofs.accept_start.Lts as lts
@@ -32,7 +30,7 @@ module _ (s : lts.Start tie.the-claims reads.Pre reads.Post tie.handed_clauses) 
   header : header_sound d.header ≡ true
   header = s.requires.header_value.0
 
-  none_first : first_cause (described_causes d) ≡ none
+  none_first : first_cause (described_causes d) ≡ None
   none_first = s.requires.header_value.1
 
 pub burdens-requires : goal.burdens-requires
@@ -69,7 +67,7 @@ module _ (c : lts.After-start_water tie.the-claims reads.Pre reads.Post tie.hand
   is_over : c.rests_over.result ≡ sound.over (d s₁) (header s₁) (none_first s₁)
   is_over = c.rests_over.ensures _
 
-  off : c.start_water.result ≡ false → Accepts (d s₁) (Refused StartOffCurve) water (burdens_in (d s₁))
+  off : c.start_water.result ≡ false → Accepts (d s₁) (Err StartOffCurve) water (burdens_in (d s₁))
   off e =
       sound.off_curve (d s₁) (header s₁) (none_first s₁) _ _ b₁.burdens.ensures is_over c.start_water.result water
       c.start_water.ensures.load_value c.start_water.ensures.water_after e
@@ -90,7 +88,7 @@ total_water-starting-requires c = let w = c.before.before in record {
 
 pub frame-frame-requires : goal.frame-frame-requires
 frame-frame-requires c = let s = s₁ c.before.before.before in record {
-  top_level_value = s.requires.top_level_value;
+  levels_value = s.requires.levels_value;
   top_level_bound = sound.levels_kept (d s) (header s) (none_first s);
 }
 
@@ -140,14 +138,14 @@ module _ (c : lts.After-start_steady tie.the-claims reads.Pre reads.Post tie.han
   few : (d s₃).header.elements ≤ length (d s₃).water
   few = omega (arith, (sound.kept (d s₃) (header s₃) (none_first s₃)).elements_kept.most, s₃.requires.water_len.0)
 
-  unsteady : c.start_steady.result ≡ false → Accepts (d s₃) (Refused StartNotSteady) (water w₃) (burdens_in (d s₃))
+  unsteady : c.start_steady.result ≡ false → Accepts (d s₃) (Err StartNotSteady) (water w₃) (burdens_in (d s₃))
   unsteady e =
       sound.unsteady (d s₃) (header s₃) (none_first s₃) _ _ (b₁ w₃).burdens.ensures (is_over w₃) w₃.start_water.result (water w₃)
       w₃.start_water.ensures.load_value w₃.start_water.ensures.water_after (found o₃) (frame_is o₃) o₃.opening_progress-progress.ensures c.start_steady.ensures
       few e
 
   accepts : c.start_steady.result ≡ true →
-      Accepts (d s₃) (Accepted (f₂ o₃).frame-frame.result o₃.opening_progress-progress.result) (water w₃) (burdens_in (d s₃))
+      Accepts (d s₃) (Ok (record { frame = (f₂ o₃).frame-frame.result; progress = o₃.opening_progress-progress.result })) (water w₃) (burdens_in (d s₃))
   accepts e =
       sound.accepts (d s₃) (header s₃) (none_first s₃) _ _ (b₁ w₃).burdens.ensures (is_over w₃) w₃.start_water.result (water w₃)
       w₃.start_water.ensures.load_value w₃.start_water.ensures.water_after (found o₃) (frame_is o₃) o₃.opening_progress-progress.ensures c.start_steady.ensures e

@@ -1,47 +1,9 @@
-use native.Mathlib.Omega.{arith}
-use lib.ListN.{length-set}
-use borrow.Author.Rules.{rules}
 use Rattle.answers.proofs.RefusedLine.{line_of_10, line_of_11}
 use Rattle.answers.proofs.refused_line.Goals as goal
 
-pub bounds-out-1 : goal.bounds-out-1
-bounds-out-1 c = simp length-set (omega arith)
-
-pub bounds-out-2 : goal.bounds-out-2
-bounds-out-2 c = simp length-set (omega arith)
-
-pub bounds-out-3 : goal.bounds-out-3
-bounds-out-3 c = simp length-set (omega arith)
-
-pub bounds-out-4 : goal.bounds-out-4
-bounds-out-4 c = simp length-set (omega arith)
-
-pub bounds-out-5 : goal.bounds-out-5
-bounds-out-5 c = simp length-set (omega arith)
-
-pub bounds-out-6 : goal.bounds-out-6
-bounds-out-6 c = simp length-set (omega arith)
-
-pub bounds-out-7 : goal.bounds-out-7
-bounds-out-7 c = simp length-set (omega arith)
-
-pub bounds-out-8 : goal.bounds-out-8
-bounds-out-8 c = simp length-set (omega arith)
-
-pub bounds-out-9 : goal.bounds-out-9
-bounds-out-9 c = simp length-set (omega arith)
-
 pub returns-then-number-lt10 : goal.returns-then-number-lt10
-returns-then-number-lt10 c = line_of_10 c.args.number c.args.out.now c.requires.1 c.if-number-lt10.true
-
-pub bounds-out-8-2 : goal.bounds-out-8-2
-bounds-out-8-2 c = simp length-set (omega arith)
-
-pub bounds-out-9-2 : goal.bounds-out-9-2
-bounds-out-9-2 c = simp length-set (omega arith)
-
-pub bounds-out-10 : goal.bounds-out-10
-bounds-out-10 c = simp length-set (omega arith)
+returns-then-number-lt10 c =
+    rw c.copy_from_slice.ensures.after (line_of_10 c.args.number c.args.out.now c.requires.1 c.if-number-lt10.true)
 
 pub returns : goal.returns
-returns c = line_of_11 c.args.number c.args.out.now c.requires.1 c.if-number-lt10.false
+returns c = rw c.copy_from_slice.ensures.after (line_of_11 c.args.number c.args.out.now c.requires.1 c.if-number-lt10.false)

@@ -1,4 +1,3 @@
-use borrow.Author.Rules.{rules}
 use lib.IntN.{pos}
 use mathlib.Core.Path.{sym, ◌∙◌}
 use native.Mathlib.Omega.{arith}
@@ -16,29 +15,29 @@ use Rattle.division.proofs.call_flows.Tie as tie
 
 -- how many entries there are at most
 module _ (c : lts.Past-After-known_told tie.the-claims reads.Pre reads.Post tie.handed_clauses) where
-  count_most : c.in-Entries.count ≤ 129
+  count_most : c.in-Ok.count ≤ 129
   count_most =
-      entries_most c.args.r c.args.t (c.divide_into-answer.ensures.long_division _ c.in-Entries.is)
+      entries_most c.args.r c.args.t (c.divide_into-answer.ensures.long_division _ c.in-Ok.is)
 
-  count-within : Within (pos c.in-Entries.count) 129
-  count-within = within_le (within_pos c.in-Entries.count) count_most
+  count-within : Within (pos c.in-Ok.count) 129
+  count-within = within_le (within_pos c.in-Ok.count) count_most
 
 pub overflow_cast-result : goal.overflow_cast-result
 overflow_cast-result c = within_fits tt (count-within c)
 
-pub returns-in-Entries : goal.returns-in-Entries
+pub returns-in-Ok : goal.returns-in-Ok
 unfolding divided_number
-returns-in-Entries c = let t = let told = c.divide_into-answer.ensures in
-    call_returns c.args.r c.args.t c.args.flows.now c.args.remainders.now (sym c.in-Entries.is ∙ told.value) told.flows_after told.remainders_after (read_unsigned c.in-Entries.count (omega (arith, count_most c))) in record {
+returns-in-Ok c = let t = let told = c.divide_into-answer.ensures in
+    call_returns c.args.r c.args.t c.args.flows.now c.args.remainders.now (sym c.in-Ok.is ∙ told.value) told.flows_after told.remainders_after (read_unsigned c.in-Ok.count (omega (arith, count_most c))) in record {
       value = t.0;
       flows_after = t.1.0;
       remainders_after = t.1.1;
     }
 
-pub returns-in-Refused : goal.returns-in-Refused
+pub returns-in-Err : goal.returns-in-Err
 unfolding divided_number
-returns-in-Refused c = let t = let told = c.divide_into-answer.ensures in
-    call_returns c.args.r c.args.t c.args.flows.now c.args.remainders.now (sym c.in-Refused.is ∙ told.value) told.flows_after told.remainders_after
+returns-in-Err c = let t = let told = c.divide_into-answer.ensures in
+    call_returns c.args.r c.args.t c.args.flows.now c.args.remainders.now (sym c.in-Err.is ∙ told.value) told.flows_after told.remainders_after
     (read_back {z = c.minus_number.result} (record { sfits = c.minus_number.type_inv }) ∙ c.minus_number.ensures) in record {
       value = t.0;
       flows_after = t.1.0;

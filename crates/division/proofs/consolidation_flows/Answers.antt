@@ -1,4 +1,3 @@
-use borrow.Author.Rules.{rules}
 use mathlib.Core.Path.{◌≡◌, refl, sym, ap, ◌∙◌}
 use Rattle.division.proofs.FlowLaws.{returns_as, job_refused, job_opened, opened_layer, never_ran}
 use Rattle.division.specs.JobFlows.{run_to_flows}

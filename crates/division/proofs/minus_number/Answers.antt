@@ -1,4 +1,3 @@
-use borrow.Author.Rules.{rules}
 use lib.IntN.{ℤ, pos, neg_ℤ, ◌-ℤ◌}
 use mathlib.Core.Path.{◌≡◌}
 use mir.Syntax.{w64}

@@ -1,4 +1,3 @@
-use borrow.Author.Rules.{rules}
 use mathlib.Core.Path.{sym}
 use Rattle.numbers.proofs.LittleEndian.{field_one}
 use Rattle.encoding.proofs.byte.Goals as goal

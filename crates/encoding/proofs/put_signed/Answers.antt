@@ -3,7 +3,6 @@ use lib.Seq.{sets}
 use mathlib.Core.Path.{ap, ◌∙◌}
 use Rattle.numbers.specs.Bytes.{bytes}
 use Rattle.numbers.proofs.Signed.{read_back}
-use borrow.Author.Rules.{rules}
 use Rattle.encoding.proofs.put_signed.Goals as goal
 
 pub returns : goal.returns

@@ -1,29 +1,10 @@
-use native.Mathlib.Omega.{arith}
-use lib.ListN.{length-set}
-use borrow.Author.Rules.{rules}
-use Rattle.encoding.proofs.Stores.{eight_stores}
+use mathlib.Core.Path.{◌≡◌, ◌∙◌}
+use Rattle.numbers.specs.Bytes.{bytes}
+use Rattle.encoding.proofs.Stores.{eight_bytes, sets_part, length-bytes}
 use Rattle.encoding.proofs.put_word.Goals as goal
 
-pub bounds-out-at-2 : goal.bounds-out-at-2
-bounds-out-at-2 c = simp length-set (omega arith)
-
-pub bounds-out-at-3 : goal.bounds-out-at-3
-bounds-out-at-3 c = simp length-set (omega arith)
-
-pub bounds-out-at-4 : goal.bounds-out-at-4
-bounds-out-at-4 c = simp length-set (omega arith)
-
-pub bounds-out-at-5 : goal.bounds-out-at-5
-bounds-out-at-5 c = simp length-set (omega arith)
-
-pub bounds-out-at-6 : goal.bounds-out-at-6
-bounds-out-at-6 c = simp length-set (omega arith)
-
-pub bounds-out-at-7 : goal.bounds-out-at-7
-bounds-out-at-7 c = simp length-set (omega arith)
-
-pub bounds-out-at-8 : goal.bounds-out-at-8
-bounds-out-at-8 c = simp length-set (omega arith)
-
 pub returns : goal.returns
-returns c = eight_stores c.args.out.now c.args.at c.args.n
+returns c =
+    let a = c.args in
+    let part : c.copy_from_slice.new.self ≡ bytes 8 a.n = c.copy_from_slice.ensures.after ∙ c.to_le_bytes.ensures ∙ eight_bytes a.n in
+    rw part (sets_part a.out.now a.at 8 (bytes 8 a.n) (length-bytes 8 a.n) c.requires)

@@ -1,80 +1,30 @@
-use Prim.Native.Nat.{ℕ, ◌+◌, ◌*◌, ◌≤◌}
-use lib.IntN.{pos, ◌+ℤ◌, ◌-ℤ◌}
-use mathlib.Core.Path.{◌≡◌, ap, ◌∙◌}
-use Rattle.numbers.specs.Rounding.{ceil}
-use Rattle.numbers.specs.Interval.{Within}
-use Rattle.numbers.proofs.Interval.{intervals}
-use Rattle.numbers.proofs.Signed.{one_sided}
-use Rattle.quantities.specs.Quantities.{stress_limits, water_limits, pressure}
-use Rattle.rules.specs.Curve.{points, curve_at, value_of}
-use Rattle.rules.specs.Layer.{skeleton_of, effective_stress, hydraulic_conductivity, excess_pressure, resistance}
-use Rattle.curves.proofs.SmoothCurves.{conductivity_smooth}
-use Rattle.layer.specs.Soil.{SoilSound, OnSoil}
-use Rattle.layer.proofs.ReadAt.{water_most, stress_most, conductivity_range}
 use borrow.Author.Rules.{rules}
+use Rattle.rules.specs.Layer.{hydraulic_conductivity, excess_pressure, resistance}
+use Rattle.curves.proofs.SmoothCurves.{conductivity_smooth}
+use Rattle.layer.proofs.ReadAt.{water_most, stress_most, conductivity_range}
 use Rattle.layer.proofs.read_element.Goals as goal
-use Rattle.layer.proofs.read_element.Lts as lts
-use Rattle.layer.proofs.read_element.Reads as reads
-use Rattle.layer.proofs.read_element.Tie as tie
 
-module _ (c : lts.Start tie.the-claims reads.Pre reads.Post tie.handed_clauses) where
-  abbrev soil : SoilSound c.args.skeleton.points c.args.void.now c.args.stress.now c.args.conductivity_points c.args.conductivity_void.now c.args.conductivity.now
-  soil = c.requires.soil_sound
-
-  abbrev on : OnSoil c.args.skeleton.points c.args.void.now c.args.stress.now c.args.load.0 c.args.burden c.args.solids c.args.water
-  on = c.requires.on_soil
-
-  most : c.args.water ≤ water_limits.most
-  most = water_most _ _ _ _ _ _ soil _ _ _ _ on
-
-  load-within : Within c.args.load.0 stress_limits.most
-  load-within = let b = on.load_between in omega (intervals, one_sided c.args.load.0)
-
-pub effective_stress-found-requires : goal.effective_stress-found-requires
-effective_stress-found-requires c = record {
-  solids_nonzero = ((on c).solids_positive, most c);
-  least_le_points = ((soil c).compressibility_few, (soil c).compressibility_many);
-  stress_value = (soil c).compressibility_is_sound;
-}
+pub effective_stress-found-requires-clause-solids_nonzero : goal.effective_stress-found-requires-clause-solids_nonzero
+effective_stress-found-requires-clause-solids_nonzero c = search (rules, water_most)
 
 pub void_ratio-ratio-requires : goal.void_ratio-ratio-requires
-void_ratio-ratio-requires c = let s = c.before in ((on s).solids_positive, most s)
+void_ratio-ratio-requires c = search (rules, water_most)
 
-pub read-passed-requires : goal.read-passed-requires
-read-passed-requires c = let s = c.before.before in record {
-  least_le_count = ((soil s).conductivity_few, (soil s).conductivity_many);
-  smooth = conductivity_smooth _ _ _ _ (soil s).conductivity_is_sound;
-}
+pub read-passed-requires-clause-smooth : goal.read-passed-requires-clause-smooth
+read-passed-requires-clause-smooth c = search (rules, conductivity_smooth)
 
--- the values read
-stress-is : (c : lts.After-value_of tie.the-claims reads.Pre reads.Post tie.handed_clauses) → c.value_of.result ≡ value_of (effective_stress (skeleton_of (points c.args.skeleton.points c.args.void.now c.args.stress.now)) c.args.solids c.args.water)
-stress-is c = c.value_of.ensures ∙ ap value_of c.effective_stress-found.ensures.value_value.0
+pub excess_pressure-requires-clause-burden_le_most_burden : goal.excess_pressure-requires-clause-burden_le_most_burden
+excess_pressure-requires-clause-burden_le_most_burden c =
+    let most = stress_most _ _ _ _ _ _ c.requires.soil_sound _ _ _ _ c.requires.on_soil in search rules
 
-pub excess_pressure-requires : goal.excess_pressure-requires
-excess_pressure-requires c = let s = c.before.before.before.before in record {
-  within = load-within s;
-  burden_le_most_burden = ((on s).burden_most, rw (stress-is c) (stress_most _ _ _ _ _ _ (soil s) _ _ _ _ (on s)));
-}
+pub resistance-requires-clause-solids_le_most : goal.resistance-requires-clause-solids_le_most
+resistance-requires-clause-solids_le_most c = search (rules, water_most)
 
-conductivity-is : (c : lts.After-value_of2 tie.the-claims reads.Pre reads.Post tie.handed_clauses) → c.value_of-2.result ≡ value_of (hydraulic_conductivity (points c.args.conductivity_points c.args.conductivity_void.now c.args.conductivity.now) c.args.solids c.args.water)
+pub resistance-requires-clause-conductivity_nonzero : goal.resistance-requires-clause-conductivity_nonzero
 unfolding hydraulic_conductivity
-conductivity-is c =
-    let e = c.void_ratio-ratio.ensures in
-    c.value_of-2.ensures ∙ ap value_of (c.read-passed.ensures.value_value.0 ∙ ap (curve_at (points _ _ _)) e)
+resistance-requires-clause-conductivity_nonzero c =
+    let range = conductivity_range _ _ _ _ _ _ c.requires.soil_sound _ _ _ _ c.requires.on_soil in search rules
 
-pub resistance-requires : goal.resistance-requires
-resistance-requires c = let s = c.before.before.before.before.before.before in record {
-  solids_le_most = ((on s).solids_most, most s);
-  conductivity_nonzero = rw (conductivity-is c) (conductivity_range _ _ _ _ _ _ (soil s) _ _ _ _ (on s));
-}
-
-pub returns : goal.returns
-unfolding excess_pressure resistance
-returns c = record {
-  excess_value = (
-    c.excess_pressure.ensures ∙
-        ap (λ (σ : ℕ). pressure (c.args.load.0 +ℤ pos c.args.burden -ℤ pos σ)) (stress-is c.before.before.before),
-    c.resistance.ensures ∙ ap (ceil (4_905 * (c.args.solids + c.args.water))) (conductivity-is c.before),
-  );
-  stress_segment_bound = (c.effective_stress-found.ensures.value_value.1, c.read-passed.ensures.value_value.1);
-}
+pub returns-clause-excess_value : goal.returns-clause-excess_value
+unfolding excess_pressure resistance hydraulic_conductivity
+returns-clause-excess_value c = search rules

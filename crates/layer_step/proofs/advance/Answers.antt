@@ -1,4 +1,3 @@
-use borrow.Author.Tests.{not-true, not-false}
 use lib.IntN.{ℤ, pos}
 use lib.ListN.{get_or}
 use native.Mathlib.Omega.{arith}
@@ -14,7 +13,6 @@ use Rattle.numbers.specs.Arrays.{overlaid, filled, every_index}
 use Rattle.numbers.proofs.Interval.{within_fits}
 use Rattle.numbers.specs.Lists.{first_or, last_or}
 use Rattle.water.specs.Water.{height_after, stays_at, Movable}
-use borrow.Author.Rules.{rules}
 use Rattle.layer_step.proofs.advance.Goals as goal
 use Rattle.layer_step.proofs.advance.Lts as lts
 use Rattle.layer_step.proofs.advance.Reads as reads

@@ -1,11 +1,9 @@
 use Prim.Native.Nat.{◌≤◌, ◌<◌}
 use native.Mathlib.Omega.{arith}
 use native.Mathlib.Nat.{le_trans}
-use borrow.Author.Rules.{rules}
 use mathlib.Core.Path.{◌≡◌, sym, ◌∙◌}
 use Rattle.laws.proofs.Longest.{greatest_most}
 use Rattle.layer_step.proofs.MovingAt.{none_taken, off_curve, is_on_curve}
-use Rattle.numbers.proofs.Signed.{read_back}
 use Rattle.quantities.specs.Quantities.{step_limits}
 use Rattle.step_length.specs.Reach.{longest_within}
 use Rattle.layer_step.proofs.advance_longest.Goals as goal
@@ -60,24 +58,22 @@ module _ (c : lts.After-advance tie.the-claims reads.Pre reads.Post tie.handed_c
   positive : 0 < l.longest-t.result
   positive = let some = c.if-t-eq0.false in omega (arith, some)
 
-pub returns-in-Leaves : goal.returns-in-Leaves
-returns-in-Leaves c = let v = c.before in
+pub returns-in-None : goal.returns-in-None
+returns-in-None c = let v = c.before in
     let a = (s (l v)).args in
     let gave = v.advance.ensures in
-    let gives = off_curve a.top a.bottom a.elements a.low.now a.high.now a.water.now a.excess.now a.resistance.now a.above.now (l v).longest-t.result (longest_is (l v)) (positive v) (sym c.in-Leaves.is ∙ gave.value) gave.water_after gave.above_after in record {
+    let gives = off_curve a.top a.bottom a.elements a.low.now a.high.now a.water.now a.excess.now a.resistance.now a.above.now (l v).longest-t.result (longest_is (l v)) (positive v) (sym c.in-None.is ∙ gave.value) gave.water_after gave.above_after in record {
       value = gives.0;
       water_after = gives.1;
       above_after = gives.2;
     }
 
-pub returns-in-Flows : goal.returns-in-Flows
-returns-in-Flows c = let v = c.before in
+pub returns-in-Some : goal.returns-in-Some
+returns-in-Some c = let v = c.before in
     let a = (s (l v)).args in
     let gave = v.advance.ensures in
-    let first_back = read_back {z = c.in-Flows.first} (record { sfits = c.in-Flows.known_told-1-own.given.0.1 }) in
-    let last-back = read_back {z = c.in-Flows.last} (record { sfits = c.in-Flows.known_told-1-own.given.1.0.1 }) in
-    let gives = is_on_curve a.top a.bottom a.elements a.low.now a.high.now a.water.now a.excess.now a.resistance.now a.above.now (l v).longest-t.result (longest_is (l v)) (positive v) (sym c.in-Flows.is ∙ gave.value) gave.water_after gave.above_after in record {
-      value = simp (first_back, last-back) gives.0;
+    let gives = is_on_curve a.top a.bottom a.elements a.low.now a.high.now a.water.now a.excess.now a.resistance.now a.above.now (l v).longest-t.result (longest_is (l v)) (positive v) (sym c.in-Some.is ∙ gave.value) gave.water_after gave.above_after in record {
+      value = gives.0;
       water_after = gives.1;
       above_after = gives.2;
     }

@@ -1,6 +1,5 @@
 use native.Mathlib.Omega.{arith}
 use Rattle.rules.proofs.Sound.{compressible}
-use borrow.Author.Rules.{rules}
 use Rattle.layer_step.proofs.prepare.Goals as goal
 
 pub water_bounds-requires : goal.water_bounds-requires

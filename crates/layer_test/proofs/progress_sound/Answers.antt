@@ -2,7 +2,7 @@ use Prim.Native.Nat.{◌≤◌}
 use mathlib.Core.Bool.{true}
 use mathlib.Core.Path.{◌≡◌, sym, ap, ◌∙◌}
 use Rattle.numbers.proofs.Searches.{passed}
-use Rattle.quantities.proofs.Limits.{within_parts, clock_tells}
+use Rattle.quantities.proofs.Limits.{within_parts, tested_some, tested_none}
 use Rattle.quantities.specs.Quantities.{within, within_ℤ, stress_limits, clock_limits}
 use Rattle.quantities.specs.declared.Clock.{Clock}
 use Rattle.rules.specs.declared.record.Progress.{Progress}
@@ -24,7 +24,7 @@ load-true c = sym c.is_stress.ensures ∙ c.if-not-is_stress.false
 pub returns-in_default : goal.returns-in_default
 returns-in_default c =
     let n = c.before in
-    rw (load-true n, clock_tells (p n).clock.0 (sym c.in_default.is ∙ n.new.ensures))
+    rw (load-true n, tested_none _ _ _ (sym c.in_default.is ∙ n.new.ensures))
 
 -- the clock keeps its limits
 module _ (c : lts.Past-After-known_told tie.the-claims reads.Pre reads.Post) where
@@ -32,10 +32,10 @@ module _ (c : lts.Past-After-known_told tie.the-claims reads.Pre reads.Post) whe
   n = c.before
 
   abbrev now : Clock
-  now = c.in-Within.now
+  now = c.in-Some.now
 
   told : (within clock_limits (p n).clock.0 ≡ true) × (now ≡ record { 0 = (p n).clock.0 })
-  told = clock_tells (p n).clock.0 (sym c.in-Within.is ∙ n.new.ensures)
+  told = tested_some _ _ _ (sym c.in-Some.is ∙ n.new.ensures)
 
   now-is : now.0 ≡ (p n).clock.0
   now-is = ap (λ (k : Clock). k.0) told.1

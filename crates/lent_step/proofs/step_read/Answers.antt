@@ -1,6 +1,5 @@
 use Prim.Native.Nat.{ℕ, ◌+◌, ◌*◌, ◌≤◌, ◌<◌}
 use native.Mathlib.Omega.{arith}
-use borrow.Author.Rules.{rules}
 use lib.IntN.{ℤ, pos, ◌+ℤ◌, ◌-ℤ◌}
 use lib.ListN.{get_or, replicate}
 use mathlib.Core.Bool.{Bool, true, false, not}
@@ -11,7 +10,8 @@ use mir.Val.{SFits}
 use Rattle.lent_step.specs.Answers.{step_answered}
 use Rattle.lent_step.specs.Read.{ReadAs}
 use Rattle.lent_step.proofs.Read.{lent_of, lent_is, lent_read}
-use Rattle.lent_step.specs.declared.Stepped.{Stepped}
+use Rattle.layer_step.specs.declared.Flows.{Flows}
+use Rattle.std.specs.Prelude.{Some, Result, Ok, Err}
 use Rattle.lent.proofs.CallLaws.{on_layer, refused_on_layer}
 use Rattle.lent.specs.Progress.{later}
 use Rattle.lent.proofs.LayerReads.{readable, waters_most, limited, bounds_most, steepness_range, too_long_is, flows, flows_are, leaves_is, stepped_is}
@@ -27,7 +27,6 @@ use Rattle.numbers.specs.Interval.{Within}
 use Rattle.numbers.proofs.Interval.{within-add, within-sub, within_le, within_fits}
 use Rattle.numbers.specs.Lists.{first_or, last_or}
 use Rattle.numbers.proofs.Searches.{passed}
-use Rattle.numbers.proofs.Signed.{read_back}
 use Rattle.step_length.specs.Reach.{Limited, is_too_long}
 use Rattle.quantities.proofs.Limits.{within_parts}
 use Rattle.rules.specs.Calls.{called}
@@ -38,6 +37,7 @@ use Rattle.rules.specs.Run.{step_taken, after_event, after_events}
 use Rattle.rules.specs.Step.{upward_flows, too_long, stepped}
 use Rattle.rules.specs.declared.answers.Answer.TheVariants.{Done}
 use Rattle.rules.specs.declared.answers.Call.TheVariants.{Step}
+use Rattle.rules.specs.declared.answers.Refusal.{Refusal}
 use Rattle.rules.specs.declared.answers.Refusal.TheVariants.{StepTooLong, StepOffCurve}
 use Rattle.rules.specs.declared.record.Progress.{Progress}
 use Rattle.rules.specs.declared.record.Record.{Record}
@@ -74,7 +74,7 @@ module _ (s : lts.Start tie.the-claims reads.Pre reads.Post tie.handed_clauses) 
     abbrev is : is_layer r ≡ true
     is = read.is
 
-    answers : (o : Stepped) (w : List ℕ) → step_answered r o w ≡ called r (Step t) → step_answered x o w ≡ called x (Step t)
+    answers : (o : Result Progress Refusal) (w : List ℕ) → step_answered r o w ≡ called r (Step t) → step_answered x o w ≡ called x (Step t)
     answers o w = subst (λ (y : Record). step_answered y o w ≡ called y (Step t)) (sym (lent_is given))
 
 -- what is read stands in arrays of zeros
@@ -140,7 +140,7 @@ unfolding record_state step_answered
 returns-then-too_long c x given =
     let s = c.before.before in
     let r = r₁ c.before given in
-    answers s given (Stepped.Refused StepTooLong) s.args.water.now
+    answers s given (Err StepTooLong) s.args.water.now
     (sym (refused_on_layer r (Step (t s)) StepTooLong (is s given)
     (step_too_long (record_site r) (record_state r) (t s) s.requires.t_value.0 s.requires.t_value.1 (sym (tested c.before given) ∙ c.if-too_long.true))))
 
@@ -191,38 +191,23 @@ module _ (c : lts.After-advance tie.the-claims reads.Pre reads.Post tie.handed_c
       c.advance-moved.ensures.water_after ∙
       water-as s₂.args.frame.top s₂.args.frame.bottom (t s₂) (n s₂) (read s₂ given).excess_is (read s₂ given).resistance_is (read s₂ given).low_is (read s₂ given).high_is s₂.args.water.now
 
-pub returns-in-Leaves : goal.returns-in-Leaves
+pub returns-in-None : goal.returns-in-None
 unfolding record_state step_answered
-returns-in-Leaves c x given =
+returns-in-None c x given =
     let a = c.before in
     let s = s₂ a given in
     let r = r₂ a given in
-    let gone = leaves_off (stays a given) (moving a given) (sym c.in-Leaves.is ∙ gave a given) in
+    let gone = leaves_off (stays a given) (moving a given) (sym c.in-None.is ∙ gave a given) in
     let kept : left a given ≡ s.args.water.now = water_left a given ∙ sym (keeps (n s) s.args.water.now (moving a given) gone) in
-    answers s given (Stepped.Refused StepOffCurve) (left a given)
-    (ap (λ (w : List ℕ). step_answered r (Stepped.Refused StepOffCurve) w) kept ∙
+    answers s given (Err StepOffCurve) (left a given)
+    (ap (λ (w : List ℕ). step_answered r (Err StepOffCurve) w) kept ∙
     sym (refused_on_layer r (Step (t s)) StepOffCurve (is s given)
     (step_off_curve (record_site r) (record_state r) (t s) s.requires.t_value.0 s.requires.t_value.1 (short a given) (leaves_is r (is s given) nothing none (t s) ∙ ap not gone))))
 
 -- the flows of a step that stays on the curve
-module _ (c : lts.Past-After-known_told tie.the-claims reads.Pre reads.Post tie.handed_clauses) where
-  abbrev a : lts.After-advance tie.the-claims reads.Pre reads.Post tie.handed_clauses
-  a = c.before
-
+module _ (a : lts.After-advance tie.the-claims reads.Pre reads.Post tie.handed_clauses) (flows : Flows) (some_flows : a.advance-moved.result ≡ Some flows) where
   abbrev s₃ : lts.Start tie.the-claims reads.Pre reads.Post tie.handed_clauses
   s₃ = a.before.before.before.before.before
-
-  abbrev first : ℤ
-  first = c.in-Flows.first
-
-  abbrev last : ℤ
-  last = c.in-Flows.last
-
-  first_fits : SFits w64 first
-  first_fits = record { sfits = c.in-Flows.known_told-1-own.given.0.1 }
-
-  last_fits : SFits w64 last
-  last_fits = record { sfits = c.in-Flows.known_told-1-own.given.1.0.1 }
 
   module _ {x : Record} (given : Given s₃ x) where
     abbrev r₃ : Record
@@ -231,19 +216,19 @@ module _ (c : lts.Past-After-known_told tie.the-claims reads.Pre reads.Post tie.
     abbrev is₃ : is_layer r₃ ≡ true
     is₃ = is s₃ given
 
-    flowed : (stays a given ≡ true) × (first ≡ first_or (pos 0) (moving a given)) × (last ≡ last_or (pos 0) (moving a given))
-    flowed = flows_on (stays a given) (moving a given) first last (sym c.in-Flows.is ∙ gave a given)
+    flowed : (stays a given ≡ true) × (flows.bottom ≡ first_or (pos 0) (moving a given)) × (flows.top ≡ last_or (pos 0) (moving a given))
+    flowed = flows_on (stays a given) (moving a given) flows (sym some_flows ∙ gave a given)
 
-    first_within : Within first (outflow_rate * t s₃)
+    first_within : Within flows.bottom (outflow_rate * t s₃)
     first_within = within_as (flowed.1 ∙ ap (first_or (pos 0)) (flows_are r₃ is₃ nothing none (t s₃))) (outer_flows r₃ is₃ (t s₃) (t_within s₃).0 (short a given)).0
 
-    last_within : Within last (outflow_rate * t s₃)
+    last_within : Within flows.top (outflow_rate * t s₃)
     last_within = within_as (flowed.2 ∙ ap (last_or (pos 0)) (flows_are r₃ is₃ nothing none (t s₃))) (outer_flows r₃ is₃ (t s₃) (t_within s₃).0 (short a given)).1
 
-    top-sum : SFits w64 (s₃.args.progress.top_outflow.0 +ℤ last)
+    top-sum : SFits w64 (s₃.args.progress.top_outflow.0 +ℤ flows.top)
     top-sum = within_fits {n = outflow_rate * clock_limits.most} tt (within_le (within-add (state_is r₃ is₃).top_bound last_within) (omega (arith, clock-sum s₃)))
 
-    bottom-sum : SFits w64 (s₃.args.progress.bottom_outflow.0 -ℤ first)
+    bottom-sum : SFits w64 (s₃.args.progress.bottom_outflow.0 -ℤ flows.bottom)
     bottom-sum = within_fits {n = outflow_rate * clock_limits.most} tt (within_le (within-sub (state_is r₃ is₃).bottom_bound first_within) (omega (arith, clock-sum s₃)))
 
     -- the state after the step
@@ -253,28 +238,32 @@ module _ (c : lts.Past-After-known_told tie.the-claims reads.Pre reads.Post tie.
     water-next : left a given ≡ overlaid next.water s₃.args.water.now
     water-next = water_left a given ∙ sym (moves_on (n s₃) s₃.args.water.now (moving a given) flowed.0) ∙ stepped_is r₃ is₃ nothing none (t s₃)
 
-    progress-next : later s₃.args.progress (t s₃) first last ≡ progress_of next
+    progress-next : later s₃.args.progress (t s₃) flows.bottom flows.top ≡ progress_of next
     unfolding stepped record_site record_state
     progress-next =
-        let flows = flows_are r₃ is₃ nothing none (t s₃) in
-        ap (λ (z : ℤ). later s₃.args.progress (t s₃) z last) (flowed.1 ∙ ap (first_or (pos 0)) flows) ∙
-        ap (λ (z : ℤ). later s₃.args.progress (t s₃) (first_or (pos 0) (upward_flows s₃.args.frame.top s₃.args.frame.bottom (t s₃) (read_elements (record_site r₃) (record_state r₃)))) z) (flowed.2 ∙ ap (last_or (pos 0)) flows)
+        let same = flows_are r₃ is₃ nothing none (t s₃) in
+        ap (λ (z : ℤ). later s₃.args.progress (t s₃) z flows.top) (flowed.1 ∙ ap (first_or (pos 0)) same) ∙
+        ap (λ (z : ℤ). later s₃.args.progress (t s₃) (first_or (pos 0) (upward_flows s₃.args.frame.top s₃.args.frame.bottom (t s₃) (read_elements (record_site r₃) (record_state r₃)))) z) (flowed.2 ∙ ap (last_or (pos 0)) same)
 
 pub later-requires-clause-t_bound : goal.later-requires-clause-t_bound
-later-requires-clause-t_bound c = let g = (s₃ c).requires.some_read.read in omega (arith, clock-sum (s₃ c))
+later-requires-clause-t_bound c = omega (arith, clock-sum c.before.before.before.before.before.before)
 
 pub later-requires-clause-sfits : goal.later-requires-clause-sfits
-later-requires-clause-sfits c = let g = (s₃ c).requires.some_read.read in simp (read_back (first_fits c), read_back (last_fits c)) ((top-sum c g, bottom-sum c g))
+later-requires-clause-sfits c =
+    let g = c.requires.some_read.read in
+    let told = c.in-Some.is in
+    (top-sum c.before c.in-Some.flows told g, bottom-sum c.before c.in-Some.flows told g)
 
-pub returns-in-Flows : goal.returns-in-Flows
+pub returns-in-Some : goal.returns-in-Some
 unfolding step_answered with_events after_events after_event with_state record_state
-returns-in-Flows c x given =
-    let k = c.before in
-    let s = s₃ k in
-    let r = r₃ k given in
-    let progress : c.later.result ≡ later s.args.progress (t s) (first k) (last k) = simp (read_back (first_fits k), read_back (last_fits k)) at c.later.ensures in
-    answers s given (Stepped.Done c.later.result) (left (a k) given)
-    (ap (λ (p : Progress). step_answered r (Stepped.Done p) (left (a k) given)) (progress ∙ progress-next k given) ∙
-    ap (λ (w : List ℕ). step_answered r (Stepped.Done (progress_of (next k given))) w) (water-next k given) ∙
+returns-in-Some c x given =
+    let a = c.before.before in
+    let flows = c.in-Some.flows in
+    let told = c.in-Some.is in
+    let s = s₃ a flows told in
+    let r = r₃ a flows told given in
+    answers s given (Ok c.later.result) (left a given)
+    (ap (λ (p : Progress). step_answered r (Ok p) (left a given)) (c.later.ensures ∙ progress-next a flows told given) ∙
+    ap (λ (w : List ℕ). step_answered r (Ok (progress_of (next a flows told given))) w) (water-next a flows told given) ∙
     sym (on_layer r (Step (t s)) (record { answer = Done; events = step_taken (t s) ∷ [] }) (is s given)
-    (step_taken_lem (record_site r) (record_state r) (t s) s.requires.t_value.0 s.requires.t_value.1 (short (a k) given) (leaves_is r (is s given) nothing none (t s) ∙ ap not (flowed k given).0))))
+    (step_taken_lem (record_site r) (record_state r) (t s) s.requires.t_value.0 s.requires.t_value.1 (short a given) (leaves_is r (is s given) nothing none (t s) ∙ ap not (flowed a flows told given).0))))

@@ -1,15 +1,14 @@
 use native.Mathlib.Omega.{arith}
 use borrow.Author.Rules.{rules}
-use borrow.Author.Tests.{not-true, not-false}
 use lib.IntN.{pos}
-use lib.ListN.{length, length-map}
+use lib.ListN.{length}
 use mathlib.Core.Bool.{true}
 use mathlib.Core.List.{◌∷◌, []}
 use mathlib.Core.Path.{◌≡◌, refl, sym, ap, ◌∙◌}
 use Rattle.lent.proofs.CallLaws.{in_numbers, not_layer, on_layer, refused_on_layer, load_outside, load_set_lem, own_water}
 use Rattle.lent.specs.Progress.{loaded}
 use Rattle.lent.proofs.Standing.{counted}
-use Rattle.quantities.proofs.Limits.{pressure_tells}
+use Rattle.quantities.proofs.Limits.{tested_some, tested_none}
 use Rattle.rules.specs.Load.{with_load}
 use Rattle.quantities.specs.Quantities.{pressure}
 use Rattle.rules.specs.Record.{record_state, with_parts, with_events, is_layer}
@@ -41,23 +40,23 @@ module _ (c : lts.After-new tie.the-claims reads.Pre reads.Post tie.handed_claus
   standing : is_layer r ≡ true
   standing = sym c.is_layer.ensures ∙ c.if-not-is_layer.false
 
-pub returns-in-Outside : goal.returns-in-Outside
-returns-in-Outside c = let t = let n = c.before.before in
+pub returns-in-None : goal.returns-in-None
+returns-in-None c = let t = let n = c.before.before in
     let load = (start n).args.load in
     in_numbers (r n) (Load load)
-    (c.refused-in-Outside.ensures ∙
-    sym (refused_on_layer (r n) (Load load) LoadOutside (standing n) (load_outside _ _ load (pressure_tells load (sym c.in-Outside.is ∙ n.new.ensures))))) in record {
+    (c.refused-in-None.ensures ∙
+    sym (refused_on_layer (r n) (Load load) LoadOutside (standing n) (load_outside _ _ load (tested_none _ _ _ (sym c.in-None.is ∙ n.new.ensures))))) in record {
       value = t.0;
       answer_value = t.1;
     }
 
-pub returns-in-Within : goal.returns-in-Within
+pub returns-in-Some : goal.returns-in-Some
 unfolding with_events after_events after_event with_load record_state
-returns-in-Within c = let t = let p = c.before.before in
+returns-in-Some c = let t = let p = c.before.before in
     let n = p.before in
     let long : length c.args.r.layer.water ≡ 128 = search rules in
     let load = (start n).args.load in
-    let tells = pressure_tells load (sym p.in-Within.is ∙ n.new.ensures) in
+    let tells = tested_some _ _ _ (sym p.in-Some.is ∙ n.new.ensures) in
     let set = with_load (pos load) (record_state (r n)) in
     let progress = c.loaded.ensures ∙ ap (loaded (r n).layer.progress) tells.1 in
     let parts : c.with_parts.result ≡ with_parts (r n) (r n).layer.water (loaded (r n).layer.progress (pressure (pos load))) =

@@ -1,7 +1,6 @@
-use Rattle.numbers.specs.Rounding.{ceil}
-use Rattle.numbers.proofs.Quotients.{ceiled}
+use native.Mathlib.Omega.{arith}
+use Rattle.numbers.proofs.Quotients.{ceiled_up}
 use Rattle.numbers.proofs.ceil.Goals as goal
 
 pub returns : goal.returns
-unfolding ceil
-returns c = ceiled c.args.a c.args.b c.requires.0
+returns c = ceiled_up c.requires.0 (omega arith)

@@ -1,23 +1,19 @@
 use Prim.Native.Nat.{ℕ, ◌-◌, ◌≤◌, min}
 use native.Mathlib.Omega.{arith}
-use borrow.Author.Rules.{rules}
 use borrow.Author.Tests.{ne_eqb}
 use lib.Dec.{eqb}
 use lib.IntN.{ℤ}
 use mathlib.Core.Bool.{true, false, not}
 use mathlib.Core.List.{List}
 use mathlib.Core.Path.{◌≡◌, sym, ap, subst, ◌∙◌}
-use mir.Syntax.{w64}
-use mir.Val.{to_z, of_z}
 use Rattle.layer.specs.Held.{Held, held_of, excess_at, Stands}
-use Rattle.layer_step.specs.declared.Longest.TheVariants.{Taken}
+use Rattle.layer_step.specs.declared.Taken.{Taken}
 use Rattle.lent.specs.Progress.{loaded, later}
 use Rattle.lent.proofs.LayerReads.{stands_held}
 use Rattle.lent.proofs.Standing.{site_is, counted}
 use Rattle.lent.specs.Worked.{held_in, WorkedOut, excesses_in, resistances_in}
 use Rattle.numbers.specs.Arrays.{filled}
 use Rattle.numbers.specs.Lists.{greatest}
-use Rattle.numbers.proofs.Signed.{read_back}
 use Rattle.rules.specs.Layer.{Site}
 use Rattle.rules.specs.Load.{load_at, next_time, with_load}
 use Rattle.quantities.specs.Quantities.{step_limits, pressure}
@@ -28,7 +24,7 @@ use Rattle.rules.specs.declared.record.Progress.{Progress}
 use Rattle.rules.specs.declared.record.Record.{Record}
 use Rattle.pass.specs.Passing as passing
 use Rattle.pass.specs.Passing.{under_table, longest, flows_turned}
-use Rattle.pass.specs.declared.Passed.TheVariants.{Goes}
+use Rattle.std.specs.Prelude.{Ok}
 use Rattle.pass.proofs.OnePass as law
 use Rattle.pass.proofs.OnePass.{next_reaches}
 use Rattle.pass.proofs.Reached.{Reached, begins, outflows_fit}
@@ -128,23 +124,23 @@ module _ (c : lts.After-read_elements tie.the-claims reads.Pre reads.Post tie.ha
 pub next_time-next-requires : goal.next_time-next-requires
 next_time-next-requires c = let s = s₁ c in (site_is (r s) (is s)).header.table_kept.most
 
-module _ (c : lts.After-lesser tie.the-claims reads.Pre reads.Post tie.handed_clauses) where
+module _ (c : lts.After-min tie.the-claims reads.Pre reads.Post tie.handed_clauses) where
   abbrev opened : lts.Start tie.the-claims reads.Pre reads.Post tie.handed_clauses
   opened = s₁ c.before.before
 
-  nearer-is : c.lesser.result ≡ min (end opened) (next_time (site opened).load_table (clock opened) (end opened))
+  nearer-is : c.min.result ≡ min (end opened) (next_time (site opened).load_table (clock opened) (end opened))
   unfolding record_site
-  nearer-is = c.lesser.ensures ∙ ap (min (end opened)) (c.next_time-next.ensures (r opened).layer.table_load)
+  nearer-is = c.min.ensures ∙ ap (min (end opened)) (c.next_time-next.ensures (r opened).layer.table_load)
 
-  not-before : clock opened ≤ c.lesser.result
+  not-before : clock opened ≤ c.min.result
   not-before =
       let early = not_late opened in
       omega (arith, nearer-is, next_reaches (site opened).load_table (clock opened) (end opened) early)
 
-pub overflow_sub-lesser : goal.overflow_sub-lesser
-overflow_sub-lesser c = not-before c
+pub overflow_sub-min : goal.overflow_sub-min
+overflow_sub-min c = not-before c
 
-module _ (c : lts.After-lesser2 tie.the-claims reads.Pre reads.Post tie.handed_clauses) where
+module _ (c : lts.After-min2 tie.the-claims reads.Pre reads.Post tie.handed_clauses) where
   abbrev f₁ : lts.After-read_elements tie.the-claims reads.Pre reads.Post tie.handed_clauses
   f₁ = c.before.before.before
 
@@ -152,14 +148,14 @@ module _ (c : lts.After-lesser2 tie.the-claims reads.Pre reads.Post tie.handed_c
   s₂ = s₁ f₁
 
   abbrev most : ℕ
-  most = c.lesser-most.result
+  most = c.min-most.result
 
   reach-is : most ≡ longest_reach (site s₂) (end s₂) (clock s₂)
   unfolding longest_reach
-  reach-is = c.lesser-most.ensures ∙ ap (λ (z : ℕ). min step_limits.most (z - clock s₂)) (nearer-is c.before)
+  reach-is = c.min-most.ensures ∙ ap (λ (z : ℕ). min step_limits.most (z - clock s₂)) (nearer-is c.before)
 
   reach-most : most ≤ step_limits.most
-  reach-most = rw c.lesser-most.ensures (omega arith)
+  reach-most = rw c.min-most.ensures (omega arith)
 
   -- the longest step within reach
   longest_is : greatest most (λ t. not (too_long (record_site (under (g f₁))) (record_state (under (g f₁))) t)) ≡ longest (r s₂) (end s₂)
@@ -183,7 +179,7 @@ advance_longest-requires c = let l = c.before.before in
     }
 
 module _ (c : lts.After-advance_longest tie.the-claims reads.Pre reads.Post tie.handed_clauses) where
-  abbrev reached : lts.After-lesser2 tie.the-claims reads.Pre reads.Post tie.handed_clauses
+  abbrev reached : lts.After-min2 tie.the-claims reads.Pre reads.Post tie.handed_clauses
   reached = c.before.before.before
 
   abbrev f : lts.After-read_elements tie.the-claims reads.Pre reads.Post tie.handed_clauses
@@ -203,10 +199,10 @@ module _ (c : lts.After-advance_longest tie.the-claims reads.Pre reads.Post tie.
       let law = turn_is (under (g f)) (is-under (g f)) start.args.excess.now start.args.resistance.now (excess_is f) (resistance_is f) (worked (g f)) (most reached) start.args.above.now (longest_is reached) in
       (c.advance_longest.ensures.value ∙ law.0, c.advance_longest.ensures.water_after ∙ law.1, c.advance_longest.ensures.above_after ∙ law.2)
 
-pub returns-in-NoneTaken : goal.returns-in-NoneTaken
-returns-in-NoneTaken c = let a = c.before in
+pub returns-in-Err : goal.returns-in-Err
+returns-in-Err c = let a = c.before in
     let read = (f a).read_elements.ensures in record {
-      value = law.gives_stop (at (start a)) (under-is (g (f a))) c.in-NoneTaken.stop (sym c.in-NoneTaken.is ∙ (same a).0);
+      value = law.gives_stop (at (start a)) (under-is (g (f a))) c.in-Err.stop (sym c.in-Err.is ∙ (same a).0);
       water_after = (same a).1;
       above_after = (same a).2;
       excess_after = excess_is (f a);
@@ -216,49 +212,33 @@ returns-in-NoneTaken c = let a = c.before in
     }
 
 -- a step
-module _ (c : lts.Past-After-known_told2 tie.the-claims reads.Pre reads.Post tie.handed_clauses) where
-  abbrev a : lts.After-advance_longest tie.the-claims reads.Pre reads.Post tie.handed_clauses
-  a = c.before
+module _ (a : lts.After-advance_longest tie.the-claims reads.Pre reads.Post tie.handed_clauses) (taken : Taken)
+    (gave : a.advance_longest.result ≡ Ok taken) where
+  told : Ok taken ≡ gives (under (g (f a))) (passing.found (r (start a)) (end (start a)))
+  told = sym gave ∙ (same a).0
 
-  abbrev t : ℕ
-  t = c.in-Taken.t
+  abbrev after : Progress
+  after = later (g (f a)).loaded-under.result taken.seconds taken.flows.bottom taken.flows.top
 
-  abbrev first : ℤ
-  first = c.in-Taken.first
-
-  abbrev last : ℤ
-  last = c.in-Taken.last
-
-  first_back : to_z w64 (of_z w64 first) ≡ first
-  first_back = read_back (record { sfits = c.in-Taken.known_told-in-Taken-1-own.given.1.0.1 })
-
-  last-back : to_z w64 (of_z w64 last) ≡ last
-  last-back = read_back (record { sfits = c.in-Taken.known_told-in-Taken-1-own.given.1.1.0.1 })
-
-  told : Taken t first last ≡ gives (under (g (f a))) (passing.found (r (start a)) (end (start a)))
-  told = sym c.in-Taken.is ∙ (same a).0
-
-  abbrev progress : Progress
-  progress = (g (f a)).loaded-under.result
-
-  stepping : Reached (r (start a)) (end (start a)) 1 (water a) (later progress t first last) 1
+  stepping : Reached (r (start a)) (end (start a)) 1 (water a) after 1
   unfolding record_site record_state with_load
   stepping =
-      rw (law.later_is (at (start a)) t first last told (under-is (g (f a))))
-      (law.goes_on (at (start a)) (before-end (start a)) (omega arith) (same a).1 t (law.went (at (start a)) t first last told))
+      rw (law.later_is (at (start a)) taken told (under-is (g (f a))))
+      (law.goes_on (at (start a)) (before-end (start a)) (omega arith) (same a).1 taken.seconds (law.went (at (start a)) taken told))
 
 pub later-requires-clause-t_bound : goal.later-requires-clause-t_bound
-later-requires-clause-t_bound c = omega (arith, (stepping c).early, (stepping c).late)
+later-requires-clause-t_bound c =
+    let s = stepping c.before.before c.in-Ok.taken c.in-Ok.is in
+    omega (arith, s.early, s.late)
 
 pub later-requires-clause-sfits : goal.later-requires-clause-sfits
-later-requires-clause-sfits c = simp (first_back c, last-back c) (outflows_fit (stepping c))
+later-requires-clause-sfits c = outflows_fit (stepping c.before.before c.in-Ok.taken c.in-Ok.is)
 
-pub returns-in-Taken : goal.returns-in-Taken
-returns-in-Taken c = let k = c.before in
-    let v = a k in
-    let read = (f v).read_elements.ensures in
-    let after : c.later.result ≡ later (progress k) (t k) (first k) (last k) = simp (first_back k, last-back k) at c.later.ensures in record {
-      value = ap Goes after ∙ law.gives_step (at (start v)) (t k) (first k) (last k) (told k) (under-is (g (f v)));
+pub returns-in-Ok : goal.returns-in-Ok
+returns-in-Ok c =
+    let v = c.before.before.before in
+    let read = (f v).read_elements.ensures in record {
+      value = ap Ok c.later.ensures ∙ law.gives_step (at (start v)) c.in-Ok.taken (told v c.in-Ok.taken c.in-Ok.is) (under-is (g (f v)));
       water_after = (same v).1;
       above_after = (same v).2;
       excess_after = excess_is (f v);

@@ -1,6 +1,5 @@
-use Prim.Native.Nat.{ℕ, ◌+◌, ◌-◌, ◌≤◌, ◌<◌}
+use Prim.Native.Nat.{ℕ, ◌+◌, ◌≤◌, ◌<◌}
 use native.Mathlib.Omega.{arith}
-use borrow.Author.Rules.{rules}
 use borrow.Author.Tests.{eq-eqb, ne_eqb}
 use lib.Dec.{eqb}
 use lib.IntN.{ℤ}
@@ -12,11 +11,10 @@ use Rattle.layer.proofs.SegmentsAt.{segments_length}
 use Rattle.lent.proofs.Standing.{counted}
 use Rattle.layer.specs.Held.{excess_at, resistance_at}
 use Rattle.lent.specs.Worked.{held_in, WorkedOut}
-use Rattle.rules.specs.Calls.{ended_run}
-use Rattle.rules.specs.Record.{soil_of, layer_of, record_of, with_parts, is_layer}
-use Rattle.rules.specs.declared.answers.Stop.{Stop}
+use Rattle.rules.specs.Record.{soil_of, layer_of, record_of, is_layer}
 use Rattle.rules.specs.declared.record.Progress.{Progress}
 use Rattle.rules.specs.declared.record.Record.{Record}
+use Rattle.std.specs.Prelude.{Ok}
 use Rattle.pass.specs.Passing.{under_table, longest, passed, flows_turned}
 use Rattle.pass.proofs.OnePass as law
 use Rattle.pass.proofs.OnePass.{ending, flows_long, as_long}
@@ -152,45 +150,28 @@ module _ (c : lts.After-pass tie.the-claims reads.Pre reads.Post goal.the-invari
   long-conductivity = segments_length {before = h.loop-now.conductivity_segment} {after = conductivity_segment} c.pass.ensures.segments_2 h.loop-now.invariant.5 few
 
 -- a stop
-module _ (c : lts.Past-After-known_told tie.the-claims reads.Pre reads.Post goal.the-invariant-loop-now goal.the-decreases-loop-now tie.handed_clauses) where
-  abbrev b : lts.After-pass tie.the-claims reads.Pre reads.Post goal.the-invariant-loop-now goal.the-decreases-loop-now tie.handed_clauses
-  b = c.before
-
-  abbrev stop : Stop
-  stop = c.in-Stops.stop
-
-  abbrev under : Progress
-  under = c.in-Stops.under
-
-  stopped : ended_run (r (s b)) (end (s b)) (budget (s b)) ≡ record { stop = stop; steps = steps (h b); after = with_parts (r (s b)) (water b) under }
-  stopped = law.pass_stops (at (h b)) (before-end (e b)) (some_left (e b)) (moved b) stop under (sym c.in-Stops.is ∙ b.pass.ensures.value)
-
-pub returns-in-Stops : goal.returns-in-Stops
-returns-in-Stops c =
-    let k = c.before in
-    stopped k ∙ ap (ending (r (s (b k))) (water (b k))) (sym c.ended-in-Stops.ensures)
+pub returns-in-Err : goal.returns-in-Err
+returns-in-Err c =
+    let b = c.before.before.before in
+    law.pass_stops (at (h b)) (before-end (e b)) (some_left (e b)) (moved b) c.in-Err.stopped (sym c.in-Err.is ∙ b.pass.ensures.value) ∙
+    ap (ending (r (s b)) (water b)) (sym c.ended-in-Err.ensures)
 
 -- a step
-module _ (c : lts.Past-After-known_told2 tie.the-claims reads.Pre reads.Post goal.the-invariant-loop-now goal.the-decreases-loop-now tie.handed_clauses) where
-  abbrev a : lts.After-pass tie.the-claims reads.Pre reads.Post goal.the-invariant-loop-now goal.the-decreases-loop-now tie.handed_clauses
-  a = c.before
-
-  abbrev after : Progress
-  after = c.in-Goes.after
-
+module _ (a : lts.After-pass tie.the-claims reads.Pre reads.Post goal.the-invariant-loop-now goal.the-decreases-loop-now tie.handed_clauses)
+    (after : Progress) (gave : a.pass.result ≡ Ok after) where
   goes_on : Reached (r (s a)) (end (s a)) (budget (s a)) (water a) after (steps (h a) + 1)
-  goes_on = law.pass_goes (at (h a)) (before-end (e a)) (some_left (e a)) (moved a) after (sym c.in-Goes.is ∙ a.pass.ensures.value)
+  goes_on = law.pass_goes (at (h a)) (before-end (e a)) (some_left (e a)) (moved a) after (sym gave ∙ a.pass.ensures.value)
 
 pub overflow_add-steps : goal.overflow_add-steps
-overflow_add-steps c = let f = a c.before in omega (arith, some_left (e f), (s f).requires.clock_le_end.2)
+overflow_add-steps c = let f = c.before.before in omega (arith, some_left (e f), (s f).requires.clock_le_end.2)
 
 pub loop-now-smaller : goal.loop-now-smaller
-loop-now-smaller c = omega (arith, some_left (e (a c.before)))
+loop-now-smaller c = omega (arith, some_left (e c.before.before))
 
 pub loop-now-preserved : goal.loop-now-preserved
 loop-now-preserved c =
-    let f = a c.before in
-    (goes_on c.before, long-excess f, long-resistance f, long-above f, long-stress f, long-conductivity f)
+    let f = c.before.before in
+    (goes_on f c.in-Ok.after c.in-Ok.is, long-excess f, long-resistance f, long-above f, long-stress f, long-conductivity f)
 
 pub returns : goal.returns
 returns c =

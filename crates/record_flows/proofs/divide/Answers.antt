@@ -1,4 +1,3 @@
-use borrow.Author.Rules.{rules}
 use Rattle.record_flows.proofs.LayerFaces.{entry_most}
 use Rattle.record_flows.proofs.divide.Goals as goal
 

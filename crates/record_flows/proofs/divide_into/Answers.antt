@@ -1,4 +1,3 @@
-use borrow.Author.Rules.{rules}
 use mathlib.Core.Path.{◌≡◌, sym, ap, ◌∙◌}
 use Rattle.record_flows.proofs.Answering.{accepted, refused}
 use Rattle.record_flows.proofs.Moving.{Taken, done_taken, never_ran, short}

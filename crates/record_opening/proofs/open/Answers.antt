@@ -6,7 +6,8 @@ use Rattle.numbers.specs.Arrays.{zeros}
 use Rattle.job.specs.Pairs.{Pairs}
 use Rattle.opening.specs.Opened.{opened_job, left_description}
 use Rattle.opening.proofs.OpenedLaws.{opened_blank, opened_done, opened_record_lem}
-use Rattle.opening.specs.declared.Opened.TheVariants.{Accepted}
+use Rattle.opening.specs.declared.Opened.{Opened}
+use Rattle.std.specs.Prelude.{Ok}
 use Rattle.rules.specs.Job.{counts_of}
 use Rattle.rules.specs.Opening.{opening, opening_numbers}
 use Rattle.rules.specs.Outcome.{answer_numbers}
@@ -20,12 +21,12 @@ use Rattle.rules.specs.declared.record.Progress.{Progress}
 use Rattle.record_opening.proofs.open.Goals as goal
 
 -- an accepted job, by the counts of its header and the arrays that are left
-accepted : (job : List ℕ) {header : Header} {frame : Frame} {progress : Progress} {counts : CurveCounts}
-    {solids water void stress conductivity_void conductivity table_time table_load : List ℕ} → opened_job job ≡ Accepted header frame progress →
-    counts ≡ counts_of header → Pairs (left_description job) solids water void stress conductivity_void conductivity table_time table_load →
+accepted : (job : List ℕ) {o : Opened} {counts : CurveCounts}
+    {solids water void stress conductivity_void conductivity table_time table_load : List ℕ} → opened_job job ≡ Ok o →
+    counts ≡ counts_of o.header → Pairs (left_description job) solids water void stress conductivity_void conductivity table_time table_load →
     record {
       answer = Done;
-      after = record_of (soil_of counts void stress conductivity_void conductivity) (layer_of frame progress solids water table_time table_load);
+      after = record_of (soil_of counts void stress conductivity_void conductivity) (layer_of o.frame o.progress solids water table_time table_load);
     } ≡ opening job
 accepted job e counted held =
     rw counted (λ i. record { answer = sym (opened_done job e) i; after = sym (opened_record_lem job e held) i })
@@ -49,16 +50,16 @@ open_into-opened-requires c = record {
   burden_len = refl;
 }
 
-pub returns-in-Refused : goal.returns-in-Refused
+pub returns-in-Err : goal.returns-in-Err
 unfolding opening_numbers
-returns-in-Refused c = let refused = c.refused.ensures ∙ sym (opened_blank _ _ (sym c.open_into-opened.ensures.value ∙ c.in-Refused.is)) in record {
+returns-in-Err c = let refused = c.refused.ensures ∙ sym (opened_blank _ _ (sym c.open_into-opened.ensures.value ∙ c.in-Err.is)) in record {
   value = refused;
   answer_value = numbered refused;
 }
 
-pub returns-in-Accepted : goal.returns-in-Accepted
+pub returns-in-Ok : goal.returns-in-Ok
 unfolding opening_numbers
-returns-in-Accepted c = let opened = sym c.open_into-opened.ensures.value ∙ c.in-Accepted.is in
+returns-in-Ok c = let opened = sym c.open_into-opened.ensures.value ∙ c.in-Ok.is in
     let opens = c.done.ensures ∙ accepted _ opened c.curve_counts.ensures c.open_into-opened.ensures.pairs in record {
       value = opens;
       answer_value = numbered opens;

@@ -1,5 +1,3 @@
-use borrow.Author.Rules.{rules}
-use borrow.Author.Tests.{not-true, not-false}
 use mathlib.Core.Path.{sym, ◌∙◌}
 use Rattle.record_reading.proofs.ComparedLaws.{no_layer}
 use Rattle.record_reading.proofs.compare.Goals as goal

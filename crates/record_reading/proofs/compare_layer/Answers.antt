@@ -1,7 +1,5 @@
 use Prim.Native.Nat.{◌≤◌}
 use native.Mathlib.Omega.{arith}
-use borrow.Author.Rules.{rules}
-use borrow.Author.Tests.{not-true, not-false}
 use mathlib.Core.Bool.{true}
 use mathlib.Core.Path.{◌≡◌, sym, ◌∙◌}
 use Rattle.numbers.proofs.Searches.{passed}
@@ -15,9 +13,9 @@ use Rattle.record_reading.proofs.compare_layer.Reads as reads
 use Rattle.record_reading.proofs.compare_layer.Tie as tie
 
 -- the element's number is not one of the layer's
-pub returns-then-not-within : goal.returns-then-not-within
-returns-then-not-within c =
-    sym (no_element c.args.r c.args.element c.args.reading c.requires (sym c.within.ensures ∙ c.if-not-within.true))
+pub returns-then-not-contains : goal.returns-then-not-contains
+returns-then-not-contains c =
+    sym (no_element c.args.r c.args.element c.args.reading c.requires (sym c.contains.ensures ∙ c.if-not-contains.true))
 
 -- or it is
 module _ (c : lts.Else1 tie.the-claims reads.Pre reads.Post tie.handed_clauses) where
@@ -25,7 +23,7 @@ module _ (c : lts.Else1 tie.the-claims reads.Pre reads.Post tie.handed_clauses) 
   s = c.before.before
 
   inside : within (from 1 to s.args.r.layer.frame.elements) s.args.element ≡ true
-  inside = sym c.within.ensures ∙ c.if-not-within.false
+  inside = sym c.contains.ensures ∙ c.if-not-contains.false
 
   between : (1 ≤ s.args.element) × (s.args.element ≤ s.args.r.layer.frame.elements)
   between = within_parts (from 1 to s.args.r.layer.frame.elements) s.args.element (passed inside)

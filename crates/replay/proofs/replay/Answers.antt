@@ -1,4 +1,3 @@
-use borrow.Author.Rules.{rules}
 use Rattle.replay.proofs.Claim.{claimed}
 use Rattle.replay.proofs.ReplayLaws.{replay_done, replay_not_done, ran_not_done, refused_not_done}
 use Rattle.replay.proofs.replay.Goals as goal

@@ -1,6 +1,5 @@
 use mathlib.Core.Path.{refl}
 use Rattle.rules.specs.Result.{result_size}
-use borrow.Author.Rules.{rules}
 use Rattle.result.proofs.result_size.Goals as goal
 
 pub returns : goal.returns

@@ -16,7 +16,6 @@ use Rattle.quantities.specs.Quantities.{level_limits}
 use Rattle.rules.specs.Record.{soil_of, layer_of, record_of, is_layer}
 use Rattle.rules.specs.Result.{result_size}
 use Rattle.rules.specs.declared.record.Record.{Record}
-use borrow.Author.Rules.{rules}
 use Rattle.result.proofs.write_lent.Goals as goal
 use Rattle.result.proofs.write_lent.Lts as lts
 use Rattle.result.proofs.write_lent.Reads as reads

@@ -1,4 +1,4 @@
-use Prim.Native.Nat.{◌+◌, ◌*◌, ◌-◌, ◌≤◌}
+use Prim.Native.Nat.{◌+◌, ◌*◌, ◌≤◌}
 use lib.Seq.{sets}
 use mathlib.Core.Path.{◌≡◌}
 use Rattle.numbers.specs.Arrays.{first_places}
@@ -11,9 +11,5 @@ use Rattle.result_elements.proofs.write_elements.Given as goal
 
 abbrev pub invariant-loop-j : goal.invariant-loop-j
 invariant-loop-j l =
-    (l.j ≤ l.elements) × (l.out ≡ sets l.initial.out 56 (elements_bytes (skeleton_of (points l.skeleton.points l.void l.stress)) l.top_level.0 l.load.0 0 (first_places l.j l.burden) (first_places l.j l.solids) (first_places l.j l.water))) ×
+    (l.out ≡ sets l.initial.out 56 (elements_bytes (skeleton_of (points l.skeleton.points l.void l.stress)) l.top_level.0 l.load.0 0 (first_places l.j l.burden) (first_places l.j l.solids) (first_places l.j l.water))) ×
     (l.below ≡ height_of (first_places l.j l.solids) (first_places l.j l.water)) × (l.below ≤ (solids_limits.most + water_limits.most) * l.j)
-
-abbrev pub decreases-loop-j : goal.decreases-loop-j
-decreases-loop-j l =
-    l.elements - l.j

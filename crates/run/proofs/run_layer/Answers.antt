@@ -1,7 +1,6 @@
 use borrow.Author.Rules.{rules}
 use borrow.Author.Tests.{le-ltb}
-use lib.ListN.{length, length-map}
-use mathlib.Core.Path.{◌≡◌, refl, sym, ap, ◌∙◌}
+use mathlib.Core.Path.{refl, sym, ap, ◌∙◌}
 use native.Mathlib.Omega.{arith}
 use Rattle.lent.proofs.Standing.{counted, weighted, solid}
 use Rattle.numbers.specs.Arrays.{zeros}

@@ -1,12 +1,11 @@
 use Prim.Native.Nat.{ℕ}
-use borrow.Author.Rules.{rules}
-use borrow.Author.Tests.{not-true, not-false, lt-ltb, le-ltb}
+use borrow.Author.Tests.{lt-ltb, le-ltb}
 use lib.Dec.{ltb}
 use mathlib.Core.Bool.{true, false}
 use mathlib.Core.Path.{◌≡◌, refl, sym, ◌∙◌}
 use Rattle.lent.proofs.CallLaws.{in_numbers, not_layer}
 use Rattle.numbers.proofs.Searches.{passed}
-use Rattle.quantities.proofs.Limits.{within_parts, clock_tells}
+use Rattle.quantities.proofs.Limits.{within_parts, tested_some, tested_none}
 use Rattle.quantities.specs.Quantities.{within, clock_limits, budget_limits}
 use Rattle.rules.specs.Record.{is_layer}
 use Rattle.rules.specs.declared.answers.Call.TheVariants.{Run}
@@ -62,7 +61,7 @@ pub returns-in_default : goal.returns-in_default
 returns-in_default c = let t = let n = c.before.before in
     let k = k₁ n in
     in_numbers (r k) (Run (end n) (budget n))
-    (c.refused-in_default.ensures ∙ sym (run_outside (r k) (end n) (budget n) (is k) (not-early n) (clock_tells (end n) (sym c.in_default.is ∙ n.new.ensures)) refl refl)) in record {
+    (c.refused-in_default.ensures ∙ sym (run_outside (r k) (end n) (budget n) (is k) (not-early n) (tested_none _ _ _ (sym c.in_default.is ∙ n.new.ensures)) refl refl)) in record {
       value = t.0;
       answer_value = t.1;
     }
@@ -73,7 +72,7 @@ module _ (c : lts.After-within tie.the-claims reads.Pre reads.Post tie.handed_cl
   n₁ = c.before.before
 
   timed : within clock_limits (end n₁) ≡ true
-  timed = (clock_tells (end n₁) (sym c.in-Within.is ∙ n₁.new.ensures)).0
+  timed = (tested_some _ _ _ (sym c.in-Some.is ∙ n₁.new.ensures)).0
 
 pub returns-then-not-within : goal.returns-then-not-within
 returns-then-not-within c = let t = let h = c.before.before in

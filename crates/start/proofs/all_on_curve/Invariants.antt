@@ -1,4 +1,4 @@
-use Prim.Native.Nat.{ℕ, ◌-◌, ◌≤◌}
+use Prim.Native.Nat.{ℕ}
 use lib.ListN.{get_or}
 use mathlib.Core.Bool.{Bool}
 use mathlib.Core.List.{List}
@@ -15,7 +15,4 @@ on_at curve solids water j = is_on (effective_stress (skeleton_of curve) (get_or
 
 abbrev pub invariant-loop-j : goal.invariant-loop-j
 invariant-loop-j l =
-    (l.j ≤ l.elements) × (rest_passes l.elements (on_at (points l.skeleton.points l.void l.stress) l.solids l.water) l.j ≡ every_index l.elements (on_at (points l.skeleton.points l.void l.stress) l.solids l.water))
-
-abbrev pub decreases-loop-j : goal.decreases-loop-j
-decreases-loop-j l = l.elements - l.j
+    rest_passes l.elements (on_at (points l.skeleton.points l.void l.stress) l.solids l.water) l.j ≡ every_index l.elements (on_at (points l.skeleton.points l.void l.stress) l.solids l.water)

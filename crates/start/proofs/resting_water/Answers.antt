@@ -3,12 +3,11 @@ use native.Mathlib.Nat.{le_refl}
 use native.Mathlib.Omega.{arith}
 use lib.Dec.{T}
 use mathlib.Core.Bool.{Bool, false}
-use mathlib.Core.Path.{◌≡◌, sym, ap, ◌∙◌}
+use mathlib.Core.Path.{◌≡◌, sym, ◌∙◌}
 use Rattle.numbers.proofs.Searches.{passed}
 use Rattle.rules.specs.Curve.{points}
 use Rattle.quantities.specs.Quantities.{water_limits}
 use Rattle.rules.proofs.Sound.{Compressible, compressible}
-use Rattle.start.specs.Rest.{resting_answer}
 use Rattle.start.proofs.AtRest.{rests_at, rests_between, none_below, rests_least, rests_nowhere}
 use Rattle.start.proofs.resting_water.Goals as goal
 use Rattle.start.proofs.resting_water.Lts as lts
@@ -51,12 +50,11 @@ highest_water-high-requires c = let s = c.before.before.before in record {
 }
 
 pub returns-then-not-rests : goal.returns-then-not-rests
-unfolding resting_answer
 returns-then-not-rests c =
     let s = c.before.before.before.before.before.before in
     let high = c.highest_water-high in
     let fails : rests s high.result ≡ false = sym c.rests.ensures ∙ c.if-not-rests.true in
-    sym (ap resting_answer (rests_nowhere _ _ _ s.requires.least_le_points.0 s.requires.stress_value _ s.requires.solids_nonzero.0 _ (rw (← high.ensures.0) fails)))
+    sym (rests_nowhere _ _ _ s.requires.least_le_points.0 s.requires.stress_value _ s.requires.solids_nonzero.0 _ (rw (← high.ensures.0) fails))
 
 pub lowest_water-low-requires : goal.lowest_water-low-requires
 lowest_water-low-requires c = let s = c.before.before.before.before.before.before.before.before in (s.requires.solids_nonzero.1, (curve s).void_high _ (omega arith))
@@ -90,8 +88,7 @@ loop-low-preserved c =
     (omega arith, l.loop-low.invariant.1, l.loop-low.invariant.2, below-middle l (omega arith) (sym c.rests-in-loop-low.ensures ∙ c.if-rests.false))
 
 pub returns : goal.returns
-unfolding resting_answer
 returns c =
     let l = c.before.before in
-    sym (ap resting_answer (rests_least _ _ _ (s l).requires.least_le_points.0 (s l).requires.stress_value _ (s l).requires.solids_nonzero.0 _ (high l) (high-most l)
-    l.loop-low.invariant.2 (λ U h. l.loop-low.invariant.3 U (omega arith))))
+    sym (rests_least _ _ _ (s l).requires.least_le_points.0 (s l).requires.stress_value _ (s l).requires.solids_nonzero.0 _ (high l) (high-most l)
+    l.loop-low.invariant.2 (λ U h. l.loop-low.invariant.3 U (omega arith)))

@@ -1,5 +1,5 @@
-use Prim.Native.Nat.{ℕ, ◌-◌, ◌≤◌, ◌<◌}
-use mathlib.Core.Option.{some}
+use Prim.Native.Nat.{ℕ, ◌<◌}
+use Rattle.std.specs.Prelude.{Some}
 use mathlib.Core.Path.{◌≡◌}
 use Rattle.numbers.specs.Arrays.{filled}
 use Rattle.rules.specs.Curve.{points}
@@ -9,8 +9,5 @@ use Rattle.start.proofs.resting_waters.Given as goal
 
 abbrev pub invariant-loop-j : goal.invariant-loop-j
 invariant-loop-j l =
-    (l.j ≤ l.elements) × (l.water ≡ filled l.initial.water l.j (height_at (skeleton_of (points l.skeleton.points l.void l.stress)) l.load l.burden l.solids)) ×
-    ((i : ℕ) → i < l.j → resting_at (skeleton_of (points l.skeleton.points l.void l.stress)) l.load l.burden l.solids i ≡ some (height_at (skeleton_of (points l.skeleton.points l.void l.stress)) l.load l.burden l.solids i))
-
-abbrev pub decreases-loop-j : goal.decreases-loop-j
-decreases-loop-j l = l.elements - l.j
+    (l.water ≡ filled l.initial.water l.j (height_at (skeleton_of (points l.skeleton.points l.void l.stress)) l.load l.burden l.solids)) ×
+    ((i : ℕ) → i < l.j → resting_at (skeleton_of (points l.skeleton.points l.void l.stress)) l.load l.burden l.solids i ≡ Some (height_at (skeleton_of (points l.skeleton.points l.void l.stress)) l.load l.burden l.solids i))

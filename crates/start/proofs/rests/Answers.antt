@@ -1,10 +1,10 @@
 use Rattle.rules.specs.Start.{at_most}
 use Rattle.start.proofs.rests.Goals as goal
 
-pub returns-in-On : goal.returns-in-On
+pub returns-in-Some : goal.returns-in-Some
 unfolding at_most
-returns-in-On c = rw (← c.effective_stress-found.ensures.value_value.0, c.in-On.is)
+returns-in-Some c = rw (← c.effective_stress-found.ensures.value_value.0, c.in-Some.is)
 
-pub returns-in-Off : goal.returns-in-Off
+pub returns-in-None : goal.returns-in-None
 unfolding at_most
-returns-in-Off c = rw (← c.effective_stress-found.ensures.value_value.0, c.in-Off.is)
+returns-in-None c = rw (← c.effective_stress-found.ensures.value_value.0, c.in-None.is)

@@ -1,10 +1,10 @@
 use Prim.Native.Nat.{ℕ}
-use borrow.Author.Rules.{rules}
-use lib.ListN.{length, length-map}
 use mathlib.Core.List.{List}
 use mathlib.Core.Path.{◌≡◌, sym, ap, ◌∙◌}
 use Rattle.lent_step.specs.Answers.{step_answered}
-use Rattle.lent_step.specs.declared.Stepped.{Stepped}
+use Rattle.rules.specs.declared.answers.Refusal.{Refusal}
+use Rattle.rules.specs.declared.record.Progress.{Progress}
+use Rattle.std.specs.Prelude.{Result, Ok, Err}
 use Rattle.lent.proofs.StepLaws.{step_refused}
 use Rattle.rules.specs.Calls.{called}
 use Rattle.rules.specs.declared.answers.Answer.TheVariants.{Done}
@@ -34,22 +34,22 @@ module _ (c : lts.After-step_lent tie.the-claims reads.Pre reads.Post tie.handed
   abbrev water : List ℕ
   water = c.step_lent-stepped.new.water
 
-  answers : (s : Stepped) → c.step_lent-stepped.result ≡ s → step_answered (r a) s water ≡ called (r a) (Step (start a).args.t)
-  answers s e = ap (λ (x : Stepped). step_answered (r a) x water) (sym e) ∙ c.step_lent-stepped.ensures
+  answers : (s : Result Progress Refusal) → c.step_lent-stepped.result ≡ s → step_answered (r a) s water ≡ called (r a) (Step (start a).args.t)
+  answers s e = ap (λ (x : Result Progress Refusal). step_answered (r a) x water) (sym e) ∙ c.step_lent-stepped.ensures
 
-pub returns-in-Refused : goal.returns-in-Refused
+pub returns-in-Err : goal.returns-in-Err
 unfolding step_answered
-returns-in-Refused c =
+returns-in-Err c =
     let m = c.before in
     let f = m.before in
-    let cause = m.in-Refused.cause in
+    let cause = m.in-Err.cause in
     c.refused.ensures ∙
-    step_refused (r (a f)) (start (a f)).args.t cause (start (a f)).requires.r_value (sym (ap (λ (x : Answered). x.answer) (answers f (Stepped.Refused cause) m.in-Refused.is)))
+    step_refused (r (a f)) (start (a f)).args.t cause (start (a f)).requires.r_value (sym (ap (λ (x : Answered). x.answer) (answers f (Err cause) m.in-Err.is)))
 
-pub returns-in-Done : goal.returns-in-Done
+pub returns-in-Ok : goal.returns-in-Ok
 unfolding step_answered
-returns-in-Done c =
+returns-in-Ok c =
     let m = c.before in
     let f = m.before in
-    let progress = m.in-Done.progress in
-    ap (λ (x : Record). record { answer = Done; after = x }) c.with_parts.ensures ∙ answers f (Stepped.Done progress) m.in-Done.is
+    let progress = m.in-Ok.progress in
+    ap (λ (x : Record). record { answer = Done; after = x }) c.with_parts.ensures ∙ answers f (Ok progress) m.in-Ok.is

@@ -1,14 +1,12 @@
-use Prim.Native.Nat.{ℕ, ◌+◌}
+use Prim.Native.Nat.{ℕ}
 use native.Mathlib.Omega.{arith}
-use borrow.Author.Rules.{rules}
-use borrow.Author.Tests.{not-true, not-false}
 use mathlib.Core.Bool.{true}
 use mathlib.Core.Path.{◌≡◌, sym, ◌∙◌}
 use Rattle.lent.proofs.CallLaws.{in_numbers, not_layer, refused_on_layer}
 use Rattle.lent.proofs.Standing.{state_is}
 use Rattle.lent.proofs.StepLaws.{step_length_outside, clock_outside}
 use Rattle.numbers.proofs.Searches.{passed}
-use Rattle.quantities.proofs.Limits.{within_parts, clock_tells}
+use Rattle.quantities.proofs.Limits.{within_parts, tested_some, tested_none}
 use Rattle.quantities.specs.Quantities.{within, step_limits}
 use Rattle.rules.specs.Record.{record_state, is_layer}
 use Rattle.rules.specs.declared.answers.Call.TheVariants.{Step}
@@ -58,15 +56,15 @@ overflow_add-clock c =
     let few = (within_parts step_limits (s c).args.t (passed (in-limits c))).1 in
     omega (arith, few, (state_is (s c).args.r (standing (e c))).clock_most)
 
-pub returns-in-Outside : goal.returns-in-Outside
+pub returns-in-None : goal.returns-in-None
 unfolding record_state
-returns-in-Outside c = let t = let n = c.before.before in
+returns-in-None c = let t = let n = c.before.before in
     let k = n.before in
     let t = (s k).args.t in
     in_numbers (s k).args.r (Step t)
-    (c.refused-in-Outside.ensures ∙
+    (c.refused-in-None.ensures ∙
     sym (refused_on_layer (s k).args.r (Step t) StepOutside (standing (e k))
-    (clock_outside _ _ t (in-limits k) (clock_tells (clock k + t) (sym c.in-Outside.is ∙ n.new.ensures))))) in record {
+    (clock_outside _ _ t (in-limits k) (tested_none _ _ _ (sym c.in-None.is ∙ n.new.ensures))))) in record {
       value = t.0;
       answer_value = t.1;
     }
@@ -75,11 +73,11 @@ pub step_layer-requires : goal.step_layer-requires
 step_layer-requires c = let n = c.before in
     let k = n.before in record {
       r_value = standing (e k);
-      t_value = (in-limits k, (clock_tells (clock k + (s k).args.t) (sym c.in-Within.is ∙ n.new.ensures)).0);
+      t_value = (in-limits k, (tested_some _ _ _ (sym c.in-Some.is ∙ n.new.ensures)).0);
     }
 
-pub returns-in-Within : goal.returns-in-Within
-returns-in-Within c = let t = let k = c.before.before.before in
+pub returns-in-Some : goal.returns-in-Some
+returns-in-Some c = let t = let k = c.before.before.before in
     in_numbers (s k).args.r (Step (s k).args.t) c.step_layer.ensures in record {
       value = t.0;
       answer_value = t.1;

@@ -1,11 +1,8 @@
-use Prim.Native.Nat.{◌≤◌}
-use lib.ListN.{length, take}
+use lib.ListN.{take}
 use mathlib.Core.Path.{◌≡◌}
 use Rattle.text.specs.Text.{trimmed}
 use Rattle.text.proofs.used.Given as goal
 
-abbrev pub invariant-loop-n : goal.invariant-loop-n
-invariant-loop-n l = (l.n ≤ length l.values) × (trimmed (take l.n l.values) ≡ trimmed l.values)
-
-abbrev pub decreases-loop-n : goal.decreases-loop-n
-decreases-loop-n l = l.n
+-- the places from i on hold 0
+abbrev pub invariant-loop-i : goal.invariant-loop-i
+invariant-loop-i l = trimmed (take l.i l.values) ≡ trimmed l.values

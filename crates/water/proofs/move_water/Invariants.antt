@@ -1,4 +1,3 @@
-use Prim.Native.Nat.{◌-◌, ◌≤◌}
 use lib.IntN.{pos}
 use lib.ListN.{get_or}
 use mathlib.Core.List.{◌∷◌}
@@ -9,7 +8,4 @@ use Rattle.water.proofs.move_water.Given as goal
 
 abbrev pub invariant-loop-j : goal.invariant-loop-j
 invariant-loop-j l =
-    (l.j ≤ l.elements) × (l.enters ≡ get_or (l.lowest ∷ l.above) l.j (pos 0)) × (l.water ≡ filled l.initial.water l.j (height_after l.lowest l.above l.initial.water))
-
-abbrev pub decreases-loop-j : goal.decreases-loop-j
-decreases-loop-j l = l.elements - l.j
+    (l.enters ≡ get_or (l.lowest ∷ l.above) l.j (pos 0)) × (l.water ≡ filled l.initial.water l.j (height_after l.lowest l.above l.initial.water))

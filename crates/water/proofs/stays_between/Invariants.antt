@@ -1,4 +1,3 @@
-use Prim.Native.Nat.{◌-◌, ◌≤◌}
 use lib.IntN.{pos}
 use lib.ListN.{get_or}
 use mathlib.Core.List.{◌∷◌}
@@ -10,8 +9,5 @@ use Rattle.water.proofs.stays_between.Given as goal
 
 abbrev pub invariant-loop-j : goal.invariant-loop-j
 invariant-loop-j l =
-    (l.j ≤ l.elements) × (l.enters ≡ get_or (l.lowest ∷ l.above) l.j (pos 0)) ×
-    (rest_passes l.elements (stays_at l.lowest l.above l.water l.low l.high) l.j ≡ every_index l.elements (stays_at l.lowest l.above l.water l.low l.high))
-
-abbrev pub decreases-loop-j : goal.decreases-loop-j
-decreases-loop-j l = l.elements - l.j
+    let test = stays_at l.lowest l.above l.water l.low l.high in
+    (l.enters ≡ get_or (l.lowest ∷ l.above) l.j (pos 0)) × (rest_passes l.elements test l.j ≡ every_index l.elements test)

@@ -1,5 +1,4 @@
-use Prim.Native.Nat.{◌-◌, ◌≤◌}
-use lib.ListN.{length, get_or}
+use lib.ListN.{get_or}
 use lib.Seq.{sets}
 use mathlib.Core.Path.{◌≡◌}
 use Rattle.numbers.specs.Arrays.{tabulate}
@@ -9,8 +8,4 @@ use Rattle.working.proofs.put_elements.Given as goal
 
 abbrev pub invariant-loop-j : goal.invariant-loop-j
 invariant-loop-j l =
-    (l.j ≤ l.elements) × (length l.out ≡ length l.initial.out) ×
-    (l.out ≡ sets l.initial.out l.at (appended (tabulate l.j (λ i. element_words l.soil (get_or l.solids i 0) (get_or l.water i 0) (get_or l.moved i 0)))))
-
-abbrev pub decreases-loop-j : goal.decreases-loop-j
-decreases-loop-j l = l.elements - l.j
+    l.out ≡ sets l.initial.out l.at (appended (tabulate l.j (λ i. element_words l.soil (get_or l.solids i 0) (get_or l.water i 0) (get_or l.moved i 0))))

@@ -1,5 +1,3 @@
-use Prim.Native.Nat.{◌-◌, ◌≤◌}
-use lib.ListN.{length}
 use lib.Seq.{sets}
 use mathlib.Core.Path.{◌≡◌}
 use Rattle.numbers.specs.Arrays.{tabulate}
@@ -9,8 +7,4 @@ use Rattle.working.proofs.put_faces.Given as goal
 
 abbrev pub invariant-loop-k : goal.invariant-loop-k
 invariant-loop-k l =
-    (l.k ≤ l.count) × (length l.out ≡ length l.initial.out) ×
-    (l.out ≡ sets l.initial.out 2 (appended (tabulate l.k (words_of_face l.t l.elements l.top l.bottom l.excess l.resistance))))
-
-abbrev pub decreases-loop-k : goal.decreases-loop-k
-decreases-loop-k l = l.count - l.k
+    l.out ≡ sets l.initial.out 2 (appended (tabulate l.k (words_of_face l.t l.elements l.top l.bottom l.excess l.resistance)))

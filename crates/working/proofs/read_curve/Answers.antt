@@ -2,7 +2,7 @@ use Prim.Native.Nat.{ℕ, ◌+◌, ◌<◌}
 use mathlib.Core.List.{List}
 use mathlib.Core.Path.{◌≡◌, ap, ◌∙◌}
 use Rattle.curves.proofs.Segments.{interpolable}
-use Rattle.quantities.specs.declared.CurveValue.TheVariants.{On}
+use Rattle.std.specs.Prelude.{Some}
 use Rattle.rules.specs.Curve.{Point, points, curve_at, segment_at, is_on, value_of}
 use Rattle.working.proofs.SegmentReads.{on_is, segment_spans, segment_leaves, reading_is, reading_divides}
 use Rattle.working.proofs.read_curve.Goals as goal
@@ -24,7 +24,7 @@ module _ (f : lts.After-read_from_first tie.the-claims reads.Pre reads.Post tie.
   value-is : f.read_from_first-found.result.value ≡ curve_at curve s.args.x
   value-is = f.read_from_first-found.ensures.value_value.0
 
-  stands : f.read_from_first-found.result.value ≡ On (value_of f.read_from_first-found.result.value)
+  stands : f.read_from_first-found.result.value ≡ Some (value_of f.read_from_first-found.result.value)
   stands = on_is _ (ap is_on value-is ∙ s.requires.x_value)
 
   inside : i + 1 < s.args.count

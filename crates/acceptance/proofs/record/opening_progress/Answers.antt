@@ -1,5 +1,4 @@
 use native.Mathlib.Omega.{arith}
-use borrow.Author.Rules.{rules}
 use Rattle.numbers.proofs.Signed.{read_unsigned}
 use Rattle.acceptance.proofs.record.opening_progress.Goals as goal
 

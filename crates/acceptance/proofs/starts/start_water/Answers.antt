@@ -1,11 +1,10 @@
 use native.Mathlib.Omega.{arith}
-use borrow.Author.Tests.{not-true, not-false}
 use Prim.Native.Nat.{ℕ, ◌≤◌}
 use lib.Dec.{eqb}
 use lib.ListN.{length}
 use mathlib.Core.Bool.{Bool}
 use mathlib.Core.List.{List}
-use mathlib.Core.Option.{Option, none, some}
+use Rattle.std.specs.Prelude.{Option, None, Some}
 use mathlib.Core.Path.{◌≡◌, sym, ap, ◌∙◌}
 use Rattle.acceptance.proofs.Starting.{given_found, given_left, resting-found, unrested_found, resting_long, resting_most, resting_left, cleared_left, dry_given}
 use Rattle.acceptance.specs.Accepting.{water_started}
@@ -62,7 +61,7 @@ returns-then-not-rests c = let t = c.before.before in
 pub returns-then-not-may_rest : goal.returns-then-not-may_rest
 unfolding all_or_none water_started
 returns-then-not-may_rest c = let s = c.before.before in
-    let none_found : found s ≡ none =
+    let none_found : found s ≡ None =
     unrested_found (soil s) (Bs s) (Ss s) s.args.may_rest _ _ _ c.if-not-rests.false c.if-not-may_rest.true in record {
       load_value = none_found;
       water_after = ap (water_left s) (sym none_found);
@@ -111,7 +110,7 @@ unfolding all_or_none water_started
 returns-then-not-resting_waters c = let t = c.before.before in
     let r = t.before in
     let s = s₁ r in
-    let none_found : found s ≡ none = rests-by r t.if-not-resting_waters.true in
+    let none_found : found s ≡ None = rests-by r t.if-not-resting_waters.true in
     let dry = dry_given s.args.start (all (λ w. eqb w 0) (first_places s.args.elements s.args.water.now)) (at_rest r) s.requires.water_len.1 in
     let kept : c.clear.new.numbers ≡ s.args.water.now =
     c.clear.ensures ∙ cleared_left _ _ (few s) _ _ _ _ (after r) r.resting_waters.ensures.water_after dry in record {
@@ -124,7 +123,7 @@ pub returns : goal.returns
 unfolding all_or_none water_started
 returns c = let r = c.before in
     let s = s₁ r in
-    let all_found : found s ≡ some (first_places s.args.elements (after r)) = rests-by r c.if-not-resting_waters.false in record {
+    let all_found : found s ≡ Some (first_places s.args.elements (after r)) = rests-by r c.if-not-resting_waters.false in record {
       load_value = all_found;
       water_after = resting_left _ _ (few s) _ _ _ _ _ r.resting_waters.ensures.water_after
           (sym (resting-is r) ∙ all_found) ∙

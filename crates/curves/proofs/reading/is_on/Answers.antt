@@ -1,10 +1,6 @@
 use Rattle.rules.specs.Curve.{is_on}
 use Rattle.curves.proofs.reading.is_on.Goals as goal
 
-pub returns-in-On : goal.returns-in-On
+pub returns : goal.returns
 unfolding is_on
-returns-in-On c = rw c.in-On.is
-
-pub returns-in-Off : goal.returns-in-Off
-unfolding is_on
-returns-in-Off c = rw c.in-Off.is
+returns c = c.is_some.ensures

@@ -5,7 +5,7 @@ use native.Mathlib.Omega.{arith}
 use Rattle.curves.proofs.reading.read_from_first.Goals as goal
 
 pub loop-i-init : goal.loop-i-init
-loop-i-init c = (omega arith, refl, sym (zero-add _))
+loop-i-init c = (refl, sym (zero-add _))
 
 pub interpolated-requires : goal.interpolated-requires
 interpolated-requires c = let t = interpolable _ _ _ c.args.x c.loop-i.i c.requires.smooth (omega arith) (sym (c.spans.ensures _ _) ∙ c.if-spans.true) in record {
@@ -17,22 +17,21 @@ interpolated-requires c = let t = interpolable _ _ _ c.args.x c.loop-i.i c.requi
 pub returns-then-spans : goal.returns-then-spans
 returns-then-spans c = let on = sym (c.spans.ensures _ _) ∙ c.if-spans.true in
     let is = c.interpolated.ensures in record {
-      value_value = (read_here _ _ _ c.args.x c.loop-i.i (omega arith) on is.value ∙ c.loop-i.invariant.1, omega arith);
+      value_value = (read_here _ _ _ c.args.x c.loop-i.i (omega arith) on is.value ∙ c.loop-i.invariant.0, omega arith);
       read_on = named c.args.count c.args.xs.now c.args.ys.now c.args.x c.loop-i.i is;
-      by_index = λ _ _. found_here _ _ _ c.args.x c.loop-i.i (omega arith) on c.loop-i.invariant.2;
+      by_index = λ _ _. found_here _ _ _ c.args.x c.loop-i.i (omega arith) on c.loop-i.invariant.1;
     }
 
 pub loop-i-preserved : goal.loop-i-preserved
 loop-i-preserved c =
     let off = sym (c.spans.ensures _ _) ∙ c.if-spans.false in (
-      omega arith,
-      sym (read_on _ _ _ c.args.x c.loop-i.i (omega arith) off) ∙ c.loop-i.invariant.1,
-      found_on _ _ _ c.args.x c.loop-i.i (omega arith) off c.loop-i.invariant.2,
+      sym (read_on _ _ _ c.args.x c.loop-i.i (omega arith) off) ∙ c.loop-i.invariant.0,
+      found_on _ _ _ c.args.x c.loop-i.i (omega arith) off c.loop-i.invariant.1,
     )
 
 pub returns : goal.returns
 returns c = record {
-  value_value = (sym (read_end _ _ _ c.args.x c.loop-i.i (omega arith)) ∙ c.loop-i.invariant.1, omega arith);
+  value_value = (sym (read_end _ _ _ c.args.x c.loop-i.i (omega arith)) ∙ c.loop-i.invariant.0, omega arith);
   read_on = λ y e. not_on y e;
   by_index = λ y e. not_on y e;
 }

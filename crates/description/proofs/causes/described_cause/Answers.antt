@@ -1,7 +1,7 @@
-use mathlib.Core.Path.{refl, sym, ◌∙◌}
+use mathlib.Core.Path.{refl, sym, ap, ◌∙◌}
 use Rattle.description.proofs.Checking.{chosen, answer_by}
 use Rattle.description.proofs.FieldLaws.{fields_tell}
-use Rattle.description.specs.declared.causes.Checked.TheVariants.{Sound}
+use Rattle.std.specs.Prelude.{Ok}
 use Rattle.laws.proofs.SoundHeader.{kept_header}
 use Rattle.rules.specs.Job.{job_site}
 use Rattle.description.proofs.causes.described_cause.Goals as goal
@@ -28,27 +28,27 @@ returns-in_default c = sym (answer_by _ (fields_tell _ (sym c.in_default.is ∙ 
 pub returns-then-not-compressibility_sound : goal.returns-then-not-compressibility_sound
 unfolding chosen job_site
 returns-then-not-compressibility_sound c =
-    sym (answer_by _ (fields_tell _ (sym c.in-Within.is ∙ c.check_fields.ensures _ _ _ _ _ _)).0
+    sym (answer_by _ (fields_tell _ (sym c.in-Some.is ∙ c.check_fields.ensures _ _ _ _ _ _)).0
     (sym c.compressibility_sound.ensures ∙ c.if-not-compressibility_sound.true) refl refl)
 
 pub returns-then-not-conductivity_sound : goal.returns-then-not-conductivity_sound
 unfolding chosen job_site
 returns-then-not-conductivity_sound c =
-    sym (answer_by _ (fields_tell _ (sym c.in-Within.is ∙ c.check_fields.ensures _ _ _ _ _ _)).0
+    sym (answer_by _ (fields_tell _ (sym c.in-Some.is ∙ c.check_fields.ensures _ _ _ _ _ _)).0
     (sym c.compressibility_sound.ensures ∙ c.if-not-compressibility_sound.false)
     (sym c.conductivity_sound.ensures ∙ c.if-not-conductivity_sound.true) refl)
 
 pub returns-then-not-table_sound : goal.returns-then-not-table_sound
 unfolding chosen job_site
 returns-then-not-table_sound c =
-    sym (answer_by _ (fields_tell _ (sym c.in-Within.is ∙ c.check_fields.ensures _ _ _ _ _ _)).0
+    sym (answer_by _ (fields_tell _ (sym c.in-Some.is ∙ c.check_fields.ensures _ _ _ _ _ _)).0
     (sym c.compressibility_sound.ensures ∙ c.if-not-compressibility_sound.false)
     (sym c.conductivity_sound.ensures ∙ c.if-not-conductivity_sound.false) (sym c.table_sound.ensures ∙ c.if-not-table_sound.true))
 
 pub returns : goal.returns
 unfolding chosen job_site
 returns c =
-    let told = fields_tell _ (sym c.in-Within.is ∙ c.check_fields.ensures _ _ _ _ _ _) in
-    (λ i. Sound (told.1 i) (told.2 i)) ∙
+    let told = fields_tell _ (sym c.in-Some.is ∙ c.check_fields.ensures _ _ _ _ _ _) in
+    ap Ok told.1 ∙
     sym (answer_by _ told.0 (sym c.compressibility_sound.ensures ∙ c.if-not-compressibility_sound.false)
     (sym c.conductivity_sound.ensures ∙ c.if-not-conductivity_sound.false) (sym c.table_sound.ensures ∙ c.if-not-table_sound.false))

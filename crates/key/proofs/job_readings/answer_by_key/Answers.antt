@@ -8,7 +8,6 @@ use Rattle.key.proofs.ToldLaws.{key_told, key_answers}
 use Rattle.numbers.specs.Arrays.{overlaid}
 use Rattle.result.proofs.ResultLaws.{number_is, buffer_is}
 use Rattle.rules.specs.Key.{key}
-use borrow.Author.Rules.{rules}
 use Rattle.key.proofs.job_readings.answer_by_key.Goals as goal
 use Rattle.key.proofs.job_readings.answer_by_key.Lts as lts
 use Rattle.key.proofs.job_readings.answer_by_key.Reads as reads

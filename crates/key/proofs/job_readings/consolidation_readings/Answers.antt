@@ -4,7 +4,6 @@ use Prim.Native.Nat.{◌/◌, ◌≤◌}
 use lib.Seq.{length-take-le}
 use mathlib.Core.Path.{sym, ◌∙◌}
 use Rattle.key.proofs.ReadingLaws.{room_most}
-use borrow.Author.Rules.{rules}
 use Rattle.key.proofs.job_readings.consolidation_readings.Goals as goal
 use Rattle.key.proofs.job_readings.consolidation_readings.Lts as lts
 use Rattle.key.proofs.job_readings.consolidation_readings.Reads as reads

@@ -10,4 +10,4 @@ fits : (c : lts.After-struct_told tie.the-claims reads.Pre reads.Post) → SFits
 fits c = record { sfits = c.struct_told-1.given.0.1 }
 
 pub returns : goal.returns
-returns c = simp (read_back (fits c.before)) at c.within_signed.ensures
+returns c = simp (read_back (fits c.before)) at c.contains_signed.ensures

@@ -1,5 +1,4 @@
 use Rattle.rules.specs.Record.{face_number}
-use borrow.Author.Rules.{rules}
 use Rattle.record_parts.proofs.faces.face_number.Goals as goal
 
 pub returns-in-Closed : goal.returns-in-Closed

@@ -1,5 +1,4 @@
 use Rattle.rules.specs.Job.{header_sound}
-use borrow.Author.Rules.{rules}
 use Rattle.record_parts.proofs.form.header_sound.Goals as goal
 
 pub returns : goal.returns

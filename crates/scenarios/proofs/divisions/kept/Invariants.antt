@@ -8,6 +8,3 @@ invariant-loop-i l = record {
   few : l.count + l.first ≤ l.i;
   most : l.count ≤ 129;
 }
-
-abbrev pub decreases-loop-i : goal.decreases-loop-i
-decreases-loop-i l = 129 - l.i

@@ -21,21 +21,13 @@ ran : (kind number stop steps : ℕ) → number ≡ 0 → 2 ≤ kind →
 unfolding answer_text
 ran kind number stop steps h k = simp (eq-eqb number 0 h, le-ltb kind 2 k, answer_text)
 
-pub returns-then-number-ne0 : goal.returns-then-number-ne0
-returns-then-number-ne0 c = record {
-  put = rw (refused _ _ _ _ c.if-number-ne0.true) c.put_number-next.ensures.put;
-  upper_bound = omega (arith, c.put_number-next.ensures.upper_bound);
-}
+pub returns-then-number-ne0-clause-put : goal.returns-then-number-ne0-clause-put
+returns-then-number-ne0-clause-put c = rw (refused _ _ _ _ c.if-number-ne0.true) c.put_number-next.ensures.put
 
-pub returns-then-kind-lt2 : goal.returns-then-kind-lt2
-returns-then-kind-lt2 c = record {
-  put = rw (no_run c.args.kind _ _ _ c.if-number-ne0.false (omega arith)) c.put_number-next.ensures.put;
-  upper_bound = omega (arith, c.put_number-next.ensures.upper_bound);
-}
+pub returns-then-kind-lt2-clause-put : goal.returns-then-kind-lt2-clause-put
+returns-then-kind-lt2-clause-put c = rw (no_run c.args.kind _ _ _ c.if-number-ne0.false (omega arith)) c.put_number-next.ensures.put
 
-pub returns : goal.returns
-returns c = record {
-  put = rw (ran c.args.kind _ _ _ c.if-number-ne0.false (omega arith))
-      (put_put (put_put c.put_number-next.ensures.put c.put_number-last.ensures.put) c.put_number.ensures.put);
-  upper_bound = omega (arith, c.put_number-next.ensures.upper_bound, c.put_number-last.ensures.upper_bound, c.put_number.ensures.upper_bound);
-}
+pub returns-clause-put : goal.returns-clause-put
+returns-clause-put c =
+    rw (ran c.args.kind _ _ _ c.if-number-ne0.false (omega arith))
+    (put_put (put_put c.put_number-next.ensures.put c.put_number-last.ensures.put) c.put_number.ensures.put)

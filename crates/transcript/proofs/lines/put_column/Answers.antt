@@ -1,10 +1,6 @@
-use native.Mathlib.Omega.{arith}
 use Rattle.transcript.specs.Lines.{column_text}
 use Rattle.transcript.proofs.lines.put_column.Goals as goal
 
-pub returns : goal.returns
+pub returns-clause-put : goal.returns-clause-put
 unfolding column_text
-returns c = record {
-  put = rw c.used.ensures.0 at c.put_row.ensures.put;
-  upper_bound = omega (arith, c.put_row.ensures.upper_bound, c.used.ensures.1);
-}
+returns-clause-put c = rw c.used.ensures.0 at c.put_row.ensures.put

@@ -1,13 +1,7 @@
-use Prim.Native.Nat.{◌-◌, ◌≤◌}
-use lib.ListN.{length}
 use mathlib.Core.Path.{◌≡◌}
 use Rattle.numbers.specs.Arrays.{filled}
 use Rattle.numbers.specs.Bytes.{column}
 use Rattle.words.proofs.bytes.read_words.Given as goal
 
 abbrev pub invariant-loop-i : goal.invariant-loop-i
-invariant-loop-i l =
-    (l.i ≤ length l.initial.words) × (l.words ≡ filled l.initial.words l.i (column 8 0 l.bytes)) × (length l.words ≡ length l.initial.words)
-
-abbrev pub decreases-loop-i : goal.decreases-loop-i
-decreases-loop-i l = length l.initial.words - l.i
+invariant-loop-i l = l.words ≡ filled l.initial.words l.i (column 8 0 l.bytes)

@@ -4,24 +4,6 @@ use Rattle.job.proofs.Counts.{counted}
 use Rattle.writer.proofs.Stores.{job_stored}
 use Rattle.writer.proofs.bytes.write_bytes.Goals as goal
 
-pub overflow_mul-compressibility_at : goal.overflow_mul-compressibility_at
-overflow_mul-compressibility_at c = omega (arith, counted c.args.header _ c.requires.header_value.0 refl)
-
-pub overflow_add-compressibility_at : goal.overflow_add-compressibility_at
-overflow_add-compressibility_at c = omega (arith, counted c.args.header _ c.requires.header_value.0 refl)
-
-pub overflow_mul-conductivity_at : goal.overflow_mul-conductivity_at
-overflow_mul-conductivity_at c = omega (arith, counted c.args.header _ c.requires.header_value.0 refl)
-
-pub overflow_add-conductivity_at : goal.overflow_add-conductivity_at
-overflow_add-conductivity_at c = omega (arith, counted c.args.header _ c.requires.header_value.0 refl)
-
-pub overflow_mul-table_at : goal.overflow_mul-table_at
-overflow_mul-table_at c = omega (arith, counted c.args.header _ c.requires.header_value.0 refl)
-
-pub overflow_add-table_at : goal.overflow_add-table_at
-overflow_add-table_at c = omega (arith, counted c.args.header _ c.requires.header_value.0 refl)
-
 pub write_header-requires : goal.write_header-requires
 write_header-requires c = omega (arith, counted c.args.header _ c.requires.header_value.0 refl)
 
