@@ -20,17 +20,26 @@ impl Quantity for Head {
     ghost LIMITS = { level_limits };
 
     const LIMITS: Limits = Limits {
-        least: 0,
-        most: 200_000_000_000,
+        least: Head::LEAST,
+        most: Head::MOST,
     };
+
+    // By the constructor.
+    fn within(n: u64) -> bool {
+        Head::new(n).is_some()
+    }
 }
 
 impl Head {
+    pub const LEAST: u64 = 0;
+
+    pub const MOST: u64 = 200_000_000_000;
+
     // A level, if it keeps the limits.
     pub fn new(level: u64) -> Option<Head>
         ensures { result ≡ tested_head level }
     {
-        if Head::within(level) {
+        if Head::LIMITS.contains(level) {
             Some(Head(level as i64))
         } else {
             None
@@ -61,17 +70,26 @@ impl Quantity for Pressure {
     ghost LIMITS = { stress_limits };
 
     const LIMITS: Limits = Limits {
-        least: 0,
-        most: 2_000_000_000,
+        least: Pressure::LEAST,
+        most: Pressure::MOST,
     };
+
+    // By the constructor.
+    fn within(n: u64) -> bool {
+        Pressure::new(n).is_some()
+    }
 }
 
 impl Pressure {
+    pub const LEAST: u64 = 0;
+
+    pub const MOST: u64 = 2_000_000_000;
+
     // A stress, if it keeps the limits.
     pub fn new(stress: u64) -> Option<Pressure>
         ensures { result ≡ tested_pressure stress }
     {
-        if Pressure::within(stress) {
+        if Pressure::LIMITS.contains(stress) {
             Some(Pressure(stress as i64))
         } else {
             None
@@ -94,21 +112,28 @@ impl Quantity for Void {
     ghost LIMITS = { void_limits };
 
     const LIMITS: Limits = Limits {
-        least: 1,
+        least: Void::LEAST,
         most: Void::MOST,
     };
+
+    // By the constructor.
+    fn within(n: u64) -> bool {
+        Void::new(n).is_some()
+    }
 }
 
 impl Void {
     // A void ratio of 1.
     pub const ONE: u64 = 100_000_000;
 
+    pub const LEAST: u64 = 1;
+
     pub const MOST: u64 = 10 * Void::ONE;
 
     pub fn new(ratio: u64) -> Option<Void>
         ensures { result ≡ tested_void ratio }
     {
-        if Void::within(ratio) {
+        if Void::LIMITS.contains(ratio) {
             Some(Void(ratio))
         } else {
             None
@@ -124,16 +149,25 @@ impl Quantity for Clock {
     ghost LIMITS = { clock_limits };
 
     const LIMITS: Limits = Limits {
-        least: 0,
-        most: 3_000_000_000,
+        least: Clock::LEAST,
+        most: Clock::MOST,
     };
+
+    // By the constructor.
+    fn within(n: u64) -> bool {
+        Clock::new(n).is_some()
+    }
 }
 
 impl Clock {
+    pub const LEAST: u64 = 0;
+
+    pub const MOST: u64 = 3_000_000_000;
+
     pub fn new(seconds: u64) -> Option<Clock>
         ensures { result ≡ tested_clock seconds }
     {
-        if Clock::within(seconds) {
+        if Clock::LIMITS.contains(seconds) {
             Some(Clock(seconds))
         } else {
             None
@@ -149,9 +183,15 @@ impl Quantity for Conductivity {
     ghost LIMITS = { conductivity_limits };
 
     const LIMITS: Limits = Limits {
-        least: 1,
-        most: 1_000_000_000,
+        least: Conductivity::LEAST,
+        most: Conductivity::MOST,
     };
+}
+
+impl Conductivity {
+    pub const LEAST: u64 = 1;
+
+    pub const MOST: u64 = 1_000_000_000;
 }
 
 // The solids height of an element in nanometres.
@@ -162,12 +202,14 @@ impl Quantity for Solids {
     ghost LIMITS = { solids_limits };
 
     const LIMITS: Limits = Limits {
-        least: 100_000,
+        least: Solids::LEAST,
         most: Solids::MOST,
     };
 }
 
 impl Solids {
+    pub const LEAST: u64 = 100_000;
+
     pub const MOST: u64 = 100_000_000;
 }
 
@@ -179,12 +221,14 @@ impl Quantity for Water {
     ghost LIMITS = { water_limits };
 
     const LIMITS: Limits = Limits {
-        least: 0,
+        least: Water::LEAST,
         most: Water::MOST,
     };
 }
 
 impl Water {
+    pub const LEAST: u64 = 0;
+
     // What the most solids hold at the greatest void ratio.
     pub const MOST: u64 = Solids::MOST * Void::MOST / Void::ONE;
 }
@@ -197,9 +241,15 @@ impl Quantity for Seconds {
     ghost LIMITS = { step_limits };
 
     const LIMITS: Limits = Limits {
-        least: 1,
-        most: 1_000_000,
+        least: Seconds::LEAST,
+        most: Seconds::MOST,
     };
+}
+
+impl Seconds {
+    pub const LEAST: u64 = 1;
+
+    pub const MOST: u64 = 1_000_000;
 }
 
 // The most steps that a run may take.
@@ -210,9 +260,15 @@ impl Quantity for Budget {
     ghost LIMITS = { budget_limits };
 
     const LIMITS: Limits = Limits {
-        least: 0,
-        most: 1_000_000,
+        least: Budget::LEAST,
+        most: Budget::MOST,
     };
+}
+
+impl Budget {
+    pub const LEAST: u64 = 0;
+
+    pub const MOST: u64 = 1_000_000;
 }
 
 // A specific gravity in thousandths.
@@ -223,9 +279,15 @@ impl Quantity for Gravity {
     ghost LIMITS = { gravity_limits };
 
     const LIMITS: Limits = Limits {
-        least: 1_000,
-        most: 5_000,
+        least: Gravity::LEAST,
+        most: Gravity::MOST,
     };
+}
+
+impl Gravity {
+    pub const LEAST: u64 = 1_000;
+
+    pub const MOST: u64 = 5_000;
 }
 
 // How many elements a layer has.
@@ -236,12 +298,14 @@ impl Quantity for Elements {
     ghost LIMITS = { element_limits };
 
     const LIMITS: Limits = Limits {
-        least: 1,
+        least: Elements::LEAST,
         most: Elements::MOST,
     };
 }
 
 impl Elements {
+    pub const LEAST: u64 = 1;
+
     pub const MOST: u64 = 128;
 }
 
@@ -252,7 +316,16 @@ pub struct CurvePoints(pub u64);
 impl Quantity for CurvePoints {
     ghost LIMITS = { curve_limits };
 
-    const LIMITS: Limits = Limits { least: 2, most: 64 };
+    const LIMITS: Limits = Limits {
+        least: CurvePoints::LEAST,
+        most: CurvePoints::MOST,
+    };
+}
+
+impl CurvePoints {
+    pub const LEAST: u64 = 2;
+
+    pub const MOST: u64 = 64;
 }
 
 // How many points a load table has.
@@ -262,7 +335,16 @@ pub struct TablePoints(pub u64);
 impl Quantity for TablePoints {
     ghost LIMITS = { table_limits };
 
-    const LIMITS: Limits = Limits { least: 1, most: 64 };
+    const LIMITS: Limits = Limits {
+        least: TablePoints::LEAST,
+        most: TablePoints::MOST,
+    };
+}
+
+impl TablePoints {
+    pub const LEAST: u64 = 1;
+
+    pub const MOST: u64 = 64;
 }
 
 // A byte that says no or yes.
@@ -272,7 +354,16 @@ pub struct Flag(pub u64);
 impl Quantity for Flag {
     ghost LIMITS = { flag_limits };
 
-    const LIMITS: Limits = Limits { least: 0, most: 1 };
+    const LIMITS: Limits = Limits {
+        least: Flag::LEAST,
+        most: Flag::MOST,
+    };
+}
+
+impl Flag {
+    pub const LEAST: u64 = 0;
+
+    pub const MOST: u64 = 1;
 }
 
 // Where the water of a layer comes from: 0 as given, 1 at rest, 2 given and steady.
@@ -282,10 +373,17 @@ pub struct Start(pub u64);
 impl Quantity for Start {
     ghost LIMITS = { start_limits };
 
-    const LIMITS: Limits = Limits { least: 0, most: 2 };
+    const LIMITS: Limits = Limits {
+        least: Start::LEAST,
+        most: Start::MOST,
+    };
 }
 
 impl Start {
+    pub const LEAST: u64 = 0;
+
+    pub const MOST: u64 = 2;
+
     pub const REST: u64 = 1;
 
     pub const STEADY: u64 = 2;
@@ -299,12 +397,14 @@ impl Quantity for StartingWater {
     ghost LIMITS = { starting_water_limits };
 
     const LIMITS: Limits = Limits {
-        least: 0,
+        least: StartingWater::LEAST,
         most: StartingWater::MOST,
     };
 }
 
 impl StartingWater {
+    pub const LEAST: u64 = 0;
+
     // The most water in as many elements as there can be.
     pub const MOST: u64 = Elements::MOST * Water::MOST;
 }

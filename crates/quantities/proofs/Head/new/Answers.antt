@@ -8,10 +8,10 @@ use Rattle.quantities.proofs.Head.new.Goals as goal
 
 pub overflow_cast-result : goal.overflow_cast-result
 overflow_cast-result c =
-    let h = kept_small level_limits c.args.level (omega arith) (sym c.within.ensures ∙ c.if-within.true) in
+    let h = kept_small level_limits c.args.level (omega arith) (sym c.contains.ensures ∙ c.if-contains.true) in
     omega signed
 
-pub returns-then-within : goal.returns-then-within
-returns-then-within c =
-    let e : within level_limits c.args.level ≡ true = sym c.within.ensures ∙ c.if-within.true in
+pub returns-then-contains : goal.returns-then-contains
+returns-then-contains c =
+    let e : within level_limits c.args.level ≡ true = sym c.contains.ensures ∙ c.if-contains.true in
     rw (read_unsigned _ (kept_small level_limits _ (omega arith) e)) (rw e)
