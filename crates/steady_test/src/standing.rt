@@ -5,6 +5,7 @@ ghost use Rattle.rules.specs.Curve.{points};
 ghost use Rattle.rules.specs.Layer.{skeleton_of};
 ghost use Rattle.steady_test.specs.Flows.{standing_of};
 
+use curves::reading;
 use quantities::Pressure;
 use rules::record::Skeleton;
 
@@ -32,22 +33,20 @@ pub fn read<'a>(
     requires on_soil { OnSoil skeleton.points void.now stress.now load.0 burden solids water }
     ensures { result ≡ standing_of (skeleton_of (points skeleton.points void.now stress.now)) (points conductivity_points conductivity_void.now conductivity.now) load.0 burden solids water }
 {
-    let one = layer::read_element(
-        load,
-        burden,
-        solids,
-        water,
-        skeleton,
-        void,
-        stress,
+    let found = element::effective_stress(solids, water, skeleton, void, stress, 0);
+    let ratio = element::void_ratio(solids, water);
+    let passed = reading::read(
         conductivity_points,
         conductivity_void,
         conductivity,
-        0,
+        ratio,
         0,
     );
+    let stress_value = found.value;
+    let conductivity_value = passed.value;
+    let pressure = element::excess_pressure(load, burden, reading::value_of(stress_value));
     Standing {
-        excess: one.excess.0,
-        resistance: one.resistance,
+        excess: pressure.0,
+        resistance: element::resistance(solids, water, reading::value_of(conductivity_value)),
     }
 }
