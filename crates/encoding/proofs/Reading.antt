@@ -1,6 +1,6 @@
--- A field as a loop reads it.
+-- A field as a loop reads it, and the bounds of a column.
 use Prim.Native.Nat.{ℕ, suc, ◌+◌, ◌*◌, ◌-◌, ◌^◌, ◌≤◌, ◌<◌}
-use native.Mathlib.Nat.{pow-le-pow_right}
+use native.Mathlib.Nat.{pow-le-pow_right, mul-le-mul_left, mul-suc}
 use native.Mathlib.Omega.{arith}
 use lib.ListN.{get_or}
 use mathlib.Core.List.{List}
@@ -24,3 +24,7 @@ one_byte_more size offset i value bs are h l s e =
     let place = offset + (i - 1) in
     let down : get_or bs place 0 + 256 * value ≡ field rest place bs = rw (e, more, next) (sym (field_suc (size - i) place bs)) in
     (down, rw down (field_fits rest place bs are (omega arith)))
+
+-- a stride before the last is left for every field but it
+pub strides : (stride i count : ℕ) → i < count → stride * i + stride ≤ stride * count
+strides stride i count h = rw (← mul-suc stride i) (mul-le-mul_left stride h)

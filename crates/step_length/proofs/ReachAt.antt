@@ -1,6 +1,6 @@
 -- Laws of the longest step by index.
-use Prim.Native.Nat.{ℕ, ◌+◌, ◌*◌, ◌<◌, min, max}
-use native.Mathlib.Nat.{mul-pos}
+use Prim.Native.Nat.{ℕ, ◌+◌, ◌*◌, ◌≤◌, ◌<◌, min, max}
+use native.Mathlib.Nat.{mul-le-mul, mul-pos}
 use native.Mathlib.Omega.{arith}
 use lib.Dec.{ltb}
 use lib.IntN.{pos}
@@ -10,6 +10,7 @@ use mathlib.Core.Path.{◌≡◌, sym, ap, ◌∙◌}
 use Rattle.laws.proofs.Contacts.{Limiting, every_contact}
 use Rattle.laws.specs.Every.{Every}
 use Rattle.laws.proofs.Every.{every_tabulate}
+use Rattle.laws.specs.Most.{most_sensitivity, most_divisor}
 use Rattle.laws.specs.Shorten.{shortened}
 use Rattle.laws.proofs.Shorten.{shortened-append, greatest-shortened, too_long-shortened, inner_shortened}
 use Rattle.element.specs.Elements.{element_of, element_in, elements_in}
@@ -17,8 +18,15 @@ use Rattle.step_length.specs.Reach.{Limited, touching, is_too_long, longest_with
 use Rattle.numbers.proofs.Filled.{drop-tabulate, drop-tabulate_end}
 use Rattle.numbers.specs.Rounding.{floor}
 use Rattle.rules.specs.Layer.{Element}
+use Rattle.quantities.specs.Quantities.{stress_limits}
 use Rattle.rules.specs.Step.{inner_resistance, outer_contacts, contacts_above, contacts}
 use Rattle.quantities.specs.declared.Face.{Face}
+
+-- what a resistance is divided by is positive and fits
+pub divisor_range : (c K : ℕ) → 0 < c → c ≤ most_sensitivity → 0 < K → K ≤ stress_limits.most →
+    (0 < 2 * c * K) × (2 * c * K ≤ most_divisor)
+divisor_range c K p h q k =
+    (mul-pos (omega arith) q, mul-le-mul {n₁ = 2 * c} {m₁ = K} {n₂ = 2 * most_sensitivity} {m₂ = stress_limits.most} (omega arith) k)
 
 module _ (top : Face) (K : ℕ) (steepness : 0 < K) (n : ℕ) (resistance sensitivity : List ℕ) (limited : Limited n resistance sensitivity) where
   abbrev es : List Element
@@ -39,7 +47,7 @@ module _ (top : Face) (K : ℕ) (steepness : 0 < K) (n : ℕ) (resistance sensit
     limiting = every_contact (λ c. 0 < 2 * c * K) top bottom es (every_tabulate (λ e. 0 < 2 * e.sensitivity * K) n (element_in [] resistance sensitivity) divides)
 
     -- the longest step is the given one, shortened for each contact
-    longest_is : (most : ℕ) → longest_within top bottom K n resistance sensitivity most ≡ shortened K most (contacts top bottom es)
+    pub longest_is : (most : ℕ) → longest_within top bottom K n resistance sensitivity most ≡ shortened K most (contacts top bottom es)
     unfolding longest_within is_too_long
     longest_is most = greatest-shortened K most (contacts top bottom es) limiting
 

@@ -8,14 +8,14 @@ use lib.Dec.{ltb}
 use lib.IntN.{ℤ, pos, negsuc, nat_abs}
 use lib.ListN.{length, take, get_or, length-append}
 use lib.Seq.{length-sets, take-suc}
-use lib.Signed.{lt_z}
+use lib.Signed.{◌≤ℤ◌, ◌<ℤ◌, lt_z}
 use mathlib.Core.Bool.{Bool, true, false}
 use mathlib.Core.List.{List, [], ◌∷◌, ◌++◌, append-nil, append_assoc}
 use mathlib.Core.Path.{◌≡◌, refl, sym, ap, ◌∙◌}
 use mir.Syntax.{w64}
 use mir.Val.{SFits, of_z, to_z}
 use Rattle.encoding.proofs.Stores.{sets_append}
-use Rattle.numbers.proofs.Signed.{read_back}
+use Rattle.numbers.proofs.Signed.{le_parts, lt_parts, read_back, lt_z_true, lt_z_false}
 use Rattle.text.specs.Text.{digits, decimal, signed_decimal, spaced, row, before, trimmed, Put}
 
 -- ---- digits
@@ -74,16 +74,23 @@ decimal_longer n h k = rw (decimal_more n h k) (length-append (decimal (n / 10))
 
 -- ---- signed numbers
 
--- where the test of the bits says that z is below 0, and where it says that it is not
-pub signed_negative : (z : ℤ) → SFits w64 z → lt_z (to_z w64 (of_z w64 z)) (pos 0) ≡ true → signed_decimal z ≡ 45 ∷ decimal (nat_abs z)
+pub signed_negative : (z : ℤ) → z <ℤ pos 0 → signed_decimal z ≡ 45 ∷ decimal (nat_abs z)
 unfolding signed_decimal
-signed_negative (pos n) h e = absurd (omega (arith, ltb-true n 0 (rw (read_back h) at e)))
-signed_negative (negsuc n) h e = refl
+signed_negative (pos n) h = absurd (omega (arith, lt_parts (pos n) (pos 0) h))
+signed_negative (negsuc n) h = refl
 
-pub signed_positive : (z : ℤ) → SFits w64 z → lt_z (to_z w64 (of_z w64 z)) (pos 0) ≡ false → signed_decimal z ≡ decimal (nat_abs z)
+pub signed_positive : (z : ℤ) → pos 0 ≤ℤ z → signed_decimal z ≡ decimal (nat_abs z)
 unfolding signed_decimal
-signed_positive (pos n) h e = refl
-signed_positive (negsuc n) h e = let below : ◌≡◌ {A = Bool} true false = rw (read_back h) at e in cc
+signed_positive (pos n) h = refl
+signed_positive (negsuc n) h = absurd (omega (arith, le_parts (pos 0) (negsuc n) h))
+
+-- where the test of the bits says that z is below 0, and where it says that it is not
+module _ (z : ℤ) (fits : SFits w64 z) where
+  pub signed_negative_tested : lt_z (to_z w64 (of_z w64 z)) (pos 0) ≡ true → signed_decimal z ≡ 45 ∷ decimal (nat_abs z)
+  signed_negative_tested e = signed_negative z (lt_z_true z (pos 0) (rw (read_back fits) at e))
+
+  pub signed_positive_tested : lt_z (to_z w64 (of_z w64 z)) (pos 0) ≡ false → signed_decimal z ≡ decimal (nat_abs z)
+  signed_positive_tested e = signed_positive z (lt_z_false z (pos 0) (rw (read_back fits) at e))
 
 -- at most a sign and twenty digits
 pub length_signed : (z : ℤ) → length (signed_decimal z) ≤ 21
