@@ -10,7 +10,7 @@ HEADS = ("if", "while", "match", "for", "loop")
 
 
 class Reading:
-    """What a body holds: where its patterns and its blocks are."""
+    """What a body holds: where its patterns, with type arguments and the parameters of closures, and its blocks are."""
 
     def __init__(self, source: Source, body: Body) -> None:
         self.source = source
@@ -34,6 +34,8 @@ class Reading:
             end = source.find(place, self.body.last, "in")
             assert end is not None
             self.patterns.update(range(place, end))
+        elif word in ("::<", "|") and place in source.partner:
+            self.patterns.update(range(place, source.partner[place] + 1))
         if word == "else" and source.is_at(place + 1, "{"):
             self.blocks.append(place + 1)
         elif word in HEADS:

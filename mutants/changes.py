@@ -9,7 +9,7 @@ from typing import Iterator, List, Sequence, Set, Tuple
 from body import HEADS, Reading
 from declared import Declared, may_stand_for
 from literals import byte_literal, byte_of, number_of, with_number
-from source import KEYWORDS, Body, Source
+from source import KEYWORDS, Body, Source, is_operand_end
 
 KINDS = ("operator", "number", "argument", "branch")
 
@@ -33,6 +33,9 @@ BINARY = {
     "-=": ["+="],
 }
 ASSIGNMENTS = ("=", "+=", "-=", "*=", "/=", "%=", "&=", "|=", "^=", "<<=", ">>=")
+# The methods of std that take two numbers, one of them before the dot: those that give the same in either order, and all.
+EITHER_ORDER = ("min", "max", "abs_diff")
+OF_TWO_NUMBERS = EITHER_ORDER + ("div_ceil",)
 
 
 @dataclass(frozen=True)
@@ -45,22 +48,15 @@ class Change:
     new: str
 
 
-def is_operand_end(source: Source, place: int) -> bool:
-    token = source.tokens[place]
-    if token.kind == "mark":
-        return token.text in (")", "]")
-    return token.text not in KEYWORDS
-
-
 def operators(reading: Reading) -> Iterator[Change]:
     source, body = reading.source, reading.body
     for place in range(body.first, body.last):
         token = source.tokens[place]
         if token.kind != "mark" or place in reading.patterns:
             continue
-        if token.text == "!" or (token.text == "-" and not is_operand_end(source, place - 1)):
+        if token.text == "!" or (token.text == "-" and not is_operand_end(source.tokens, place - 1)):
             yield Change("operator", token.start, token.end, "")
-        elif is_operand_end(source, place - 1):
+        elif is_operand_end(source.tokens, place - 1):
             for new in BINARY.get(token.text, []):
                 yield Change("operator", token.start, token.end, new)
 
@@ -103,24 +99,66 @@ def is_literal(source: Source, first: int, last: int) -> bool:
     return all(token.kind in ("number", "byte", "mark") for token in source.tokens[first:last])
 
 
+def exchanged(source: Source, one: Tuple[int, int], other: Tuple[int, int]) -> Iterator[Change]:
+    """Two arguments in each other's place and, where they are names, one in place of both."""
+    yield swapped(source, one, other)
+    yield from doubled(source, one, other)
+
+
+def doubled(source: Source, one: Tuple[int, int], other: Tuple[int, int]) -> Iterator[Change]:
+    """One of two arguments in place of both, where they are names."""
+    if is_name(source, *one) and is_name(source, *other):
+        yield Change("argument", *source.span(*one), source.between(*other))
+        yield Change("argument", *source.span(*other), source.between(*one))
+
+
 def call_arguments(reading: Reading, declared: Declared) -> Iterator[Change]:
     """Neighbouring arguments of a call in each other's place, or one in place of both, where their types may fit."""
     source, body = reading.source, reading.body
-    for place in range(body.first, body.last):
-        before = source.tokens[place - 1]
+    for name in range(body.first, body.last):
+        called, place = source.tokens[name], name + 1
+        if source.is_at(place, "::<"):
+            place = source.partner[place] + 1
         if not source.is_at(place, "(") or place in reading.patterns:
             continue
-        if before.kind != "word" or before.text in KEYWORDS:
+        if called.kind != "word" or called.text in KEYWORDS:
             continue
         arguments = source.parts(place + 1, source.partner[place])
-        types = declared.argument_types(before.text, len(arguments))
+        types = declared.argument_types(called.text, len(arguments))
         for one, other, first, second in zip(arguments, arguments[1:], types, types[1:]):
-            if not may_stand_for(first, second, is_literal(source, *one) and is_literal(source, *other)):
-                continue
-            yield swapped(source, one, other)
-            if is_name(source, *one) and is_name(source, *other):
-                yield Change("argument", *source.span(*one), source.between(*other))
-                yield Change("argument", *source.span(*other), source.between(*one))
+            if may_stand_for(first, second, is_literal(source, *one) and is_literal(source, *other)):
+                yield from exchanged(source, one, other)
+
+
+def receivers(reading: Reading) -> Iterator[Change]:
+    """Two names that a method takes as numbers, one of them before the dot, as arguments of a call. With other methods that
+    one is of another type. Where the order changes nothing they are not put in each other's place."""
+    source, body = reading.source, reading.body
+    for dot in range(body.first, body.last - 2):
+        method = source.tokens[dot + 1].text
+        if not source.is_at(dot, ".", method, "(") or method not in OF_TWO_NUMBERS:
+            continue
+        first = dot - 1
+        while source.is_at(first - 1, "."):
+            first -= 2
+        pair = [(first, dot), *source.parts(dot + 3, source.partner[dot + 2])]
+        if len(pair) == 2 and all(is_name(source, *one) for one in pair) and not source.is_at(first - 1, "::"):
+            yield from (doubled if method in EITHER_ORDER else exchanged)(source, *pair)
+
+
+def type_arguments(reading: Reading, declared: Declared) -> Iterator[Change]:
+    """Neighbouring types in each other's place, or one in place of both, and a kind becomes each other one."""
+    source, body = reading.source, reading.body
+    for place in range(body.first, body.last):
+        if not source.is_at(place, "::<"):
+            continue
+        types = source.parts(place + 1, source.partner[place])
+        for one, other in zip(types, types[1:]):
+            if source.tokens[one[0]].kind == "word" and source.tokens[other[0]].kind == "word":
+                yield from exchanged(source, one, other)
+        for first, last in types:
+            for kind in declared.other_kinds(source, source.tokens[last - 1].text):
+                yield Change("argument", *source.span(first, last), kind)
 
 
 def field_values(reading: Reading, declared: Declared) -> Iterator[Change]:
@@ -145,7 +183,7 @@ def field_values(reading: Reading, declared: Declared) -> Iterator[Change]:
 def indexes(reading: Reading) -> Iterator[Change]:
     source, body = reading.source, reading.body
     for place in range(body.first, body.last):
-        if not source.is_at(place, "[") or place in reading.patterns or not is_operand_end(source, place - 1):
+        if not source.is_at(place, "[") or place in reading.patterns or not is_operand_end(source.tokens, place - 1):
             continue
         if is_name(source, place + 1, source.partner[place]):
             start, end = source.span(place + 1, source.partner[place])
@@ -219,6 +257,21 @@ def constructors(reading: Reading, declared: Declared) -> Iterator[Change]:
             yield Change("branch", variant.start, source.tokens[source.partner[place + 3]].end, empty[0])
 
 
+def options(reading: Reading, declared: Declared) -> Iterator[Change]:
+    """A `Some` becomes `None`, and a `None` that is given back `Some` of a variant that holds nothing. No crate declares
+    Option, and its variants stand without its name."""
+    source, body = reading.source, reading.body
+    arrow = source.find(body.head, body.first, "->")
+    given = source.tokens[arrow + 3].text if arrow is not None and source.is_at(arrow + 1, "Option", "<") else ""
+    empty = [variant for variant, held in declared.enums.get(given, {}).items() if not held]
+    for place in range(body.first, body.last):
+        token = source.tokens[place]
+        if source.is_at(place, "Some", "(") and place not in reading.patterns:
+            yield Change("branch", token.start, source.tokens[source.partner[place + 1]].end, "None")
+        elif source.is_at(place - 1, "return", "None") and empty:
+            yield Change("branch", token.start, token.end, f"Some({given}::{empty[0]})")
+
+
 def deletions(reading: Reading) -> Iterator[Change]:
     """An assignment or a call that stands alone goes."""
     source = reading.source
@@ -249,9 +302,9 @@ def changes_of(source: Source, body: Body, declared: Declared) -> List[Change]:
     reading = Reading(source, body)
     found: List[Change] = list(numbers(reading))
     if not body.constant:
-        for some in (operators, indexes, conditions, arms, deletions):
+        for some in (operators, receivers, indexes, conditions, arms, deletions):
             found += some(reading)
-        for others in (call_arguments, field_values, constructors):
+        for others in (call_arguments, type_arguments, field_values, constructors, options):
             found += others(reading, declared)
     found.sort(key=lambda change: (change.start, change.end, KINDS.index(change.kind), change.new))
     texts: Set[str] = {source.text}

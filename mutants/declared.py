@@ -2,6 +2,7 @@
 
 from __future__ import annotations
 
+import os
 import re
 from typing import Dict, List, Optional, Sequence, Tuple
 
@@ -16,12 +17,19 @@ class Declared:
         self.enums: Dict[str, Dict[str, List[str]]] = {}
         # The types of the parameters of every function, and of what every variant holds, by name.
         self.parameters: Dict[str, List[List[str]]] = {}
-        # The types of the fields of every struct.
+        # The types of the fields of every struct, and the file that declares it.
         self.fields: Dict[str, Dict[str, str]] = {}
+        self.files: Dict[str, str] = {}
+        # The kinds: the structs that are type arguments of some call, each with the file that declares it.
+        self.kinds: Dict[str, str] = {}
         for source in sources:
             for place, token in enumerate(source.tokens):
                 if token.text in ("enum", "struct", "fn"):
                     self.read(source, token.text, place + 1)
+        for source in sources:
+            for place, token in enumerate(source.tokens):
+                if token.text == "::<":
+                    self.read_kinds(source, place)
 
     def read(self, source: Source, word: str, place: int) -> None:
         name = source.tokens[place].text
@@ -38,6 +46,19 @@ class Declared:
             self.parameters.setdefault(name, []).append(list(typed.values()))
         else:
             self.fields[name] = typed
+            self.files[name] = source.path
+
+    def read_kinds(self, source: Source, place: int) -> None:
+        for _, last in source.parts(place + 1, source.partner[place]):
+            name = source.tokens[last - 1].text
+            if name in self.files:
+                self.kinds[name] = self.files[name]
+
+    def other_kinds(self, source: Source, kind: str) -> List[str]:
+        """The other kinds where this is one, each with its path if the file names it nowhere."""
+        words = {token.text for token in source.tokens}
+        others = [other for other in self.kinds if other != kind and kind in self.kinds]
+        return [other if other in words else path_to(self.kinds[other], other, source.path) for other in others]
 
     def argument_types(self, name: str, count: int) -> List[Optional[str]]:
         """The types of the arguments of a call, each nothing where that cannot be told from the function's name."""
@@ -46,6 +67,13 @@ class Declared:
 
     def field_type(self, struct: str, field: str) -> Optional[str]:
         return self.fields.get(struct, {}).get(field)
+
+
+def path_to(file: str, name: str, other: str) -> str:
+    """The path of what a file declares, in another file."""
+    _, crate, _, *modules = os.path.splitext(file)[0].split("/")
+    head = "crate" if other.split("/")[1] == crate else crate
+    return "::".join([head] + (modules if modules != ["lib"] else []) + [name])
 
 
 def plain(words: Sequence[str]) -> str:

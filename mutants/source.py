@@ -14,7 +14,7 @@ TOKEN = re.compile(
   | (?P<lifetime>'[A-Za-z_]\w*)
   | (?P<number>(?:0x[0-9a-fA-F_]+|[0-9][0-9_]*)(?:[ui](?:8|16|32|64|size))?)
   | (?P<word>[A-Za-z_]\w*)
-  | (?P<mark>\.\.=|\.\.|::|->|=>|<<=|>>=|<<|>>|<=|>=|==|!=|&&|\|\||[-+*/%&|^]=|[-+*/%<>=!&|^.,;:?\#@(){}\[\]])
+  | (?P<mark>\.\.=|\.\.|::<|::|->|=>|<<=|>>=|<<|>>|<=|>=|==|!=|&&|\|\||[-+*/%&|^]=|[-+*/%<>=!&|^.,;:?\#@(){}\[\]])
     """,
     re.VERBOSE | re.ASCII,
 )
@@ -24,10 +24,10 @@ CLAUSE = re.compile(r"\b(?:requires|ensures|ghost)\b\*?(?:\s+\w+(?=\s*[:{]))?\s*
 SKIPPED = re.compile(r"//[^\n]*|\bghost\s+use\b[^;]*;|b?\"(?:\\.|[^\"\\])*\"|" + CLAUSE.pattern)
 
 KEYWORDS = frozenset(
-    "as break const continue else enum extern fn for if impl in let loop match mod mut pub return struct type use"
+    "as break const continue else enum extern fn for if impl in let loop match mod move mut pub return struct type use"
     " while".split()
 )
-OPENING = {"(": ")", "[": "]", "{": "}"}
+OPENING = {"(": ")", "[": "]", "{": "}", "::<": ">", "<": ">", "|": "|"}
 # The modules of std that read and write files.
 FILES = frozenset(("io", "fs"))
 # What stands before a module of tests.
@@ -163,6 +163,23 @@ def tokens_of(path: str, text: str) -> List[Token]:
     return found
 
 
+def is_operand_end(tokens: Sequence[Token], place: int) -> bool:
+    token = tokens[place]
+    if token.kind == "mark":
+        return token.text in (")", "]", "?")
+    return token.text not in KEYWORDS
+
+
+def opens(tokens: Sequence[Token], place: int, within: str) -> bool:
+    """Whether a mark opens a bracket within another. Type arguments and a closure's parameters stand in brackets."""
+    text = tokens[place].text
+    if text == "<":
+        return within in ("::<", "<")
+    if text == "|":
+        return within != "|" and tokens[place - 1].text != "}" and not is_operand_end(tokens, place - 1)
+    return text in OPENING
+
+
 def partners(path: str, tokens: Sequence[Token]) -> Dict[int, int]:
     """The place of the closing bracket for each opening one."""
     found: Dict[int, int] = {}
@@ -170,12 +187,15 @@ def partners(path: str, tokens: Sequence[Token]) -> Dict[int, int]:
     for place, token in enumerate(tokens):
         if token.kind != "mark":
             continue
-        if token.text in OPENING:
+        within = tokens[waiting[-1]].text if waiting else ""
+        if opens(tokens, place, within):
             waiting.append(place)
-        elif token.text in OPENING.values():
-            if not waiting or OPENING[tokens[waiting[-1]].text] != token.text:
-                raise SourceError(f"{path}: a bracket {token.text} closes nothing")
+        elif token.text == OPENING.get(within):
             found[waiting.pop()] = place
+        elif token.text == ">>" and within == "<":
+            found[waiting.pop()] = found[waiting.pop()] = place
+        elif token.text in (")", "]", "}"):
+            raise SourceError(f"{path}: a bracket {token.text} closes nothing")
     if waiting:
         raise SourceError(f"{path}: a bracket is not closed")
     return found

@@ -173,6 +173,69 @@ class Changes(unittest.TestCase):
             ["put(&a, &a, 2, 1, m + n)", "put(&a, &a, 1, m + n, 2)"], results("put(&a, &a, 1, 2, m + n)", "argument")
         )
 
+    def test_a_number_before_the_dot_is_an_argument(self) -> None:
+        for method in ("min", "max", "abs_diff"):
+            self.assertEqual([f"b.{method}(b)", f"a.{method}(a)"], results(f"a.{method}(b)", "argument"))
+        self.assertEqual(["b.div_ceil(b)", "b.div_ceil(a)", "a.div_ceil(a)"], results("a.div_ceil(b)", "argument"))
+        self.assertEqual(["2 * e.max(e)", "2 * a.b.c.max(a.b.c)"], results("2 * a.b.c.max(e)", "argument"))
+        self.assertEqual(
+            ["K::A.m.min(b.min(b) - c)", "K::A.m.min(a.min(a) - c)"], results("K::A.m.min(a.min(b) - c)", "argument")
+        )
+
+    def test_what_is_no_name_before_the_dot_stays(self) -> None:
+        for before in ("K::A", "K::A.m", "g(a)", "g(a).m", "x[1].m", "a?", "a.0", "7"):
+            self.assertEqual([], results(f"{before}.min(b)", "argument"), before)
+        for after in ("min(1)", "min(b + c)", "min(K::A)", "min()", "min", "min[1]", "holds(b)", "div_ceil(b + c)"):
+            self.assertEqual([], results(f"a.{after}", "argument"), after)
+        self.assertEqual([], results("min(a)", "argument") + results("a.min(a)", "argument"))
+
+    def test_type_arguments_are_no_operators(self) -> None:
+        self.assertEqual([], results("g::<A, B>(a)", "operator"))
+        for types in ("A", "A, B", "A<B>", "A<B<C>>", "[u8; N], B"):
+            self.assertEqual([f"g::<{types}>(a) - b"], results(f"g::<{types}>(a) + b", "operator"))
+        self.assertEqual(["if false { return c; } d"], results("if !g::<A>(a) { return c; } d", "branch"))
+
+    def test_a_call_with_type_arguments_is_a_call(self) -> None:
+        self.assertEqual(["g::<A>(b, b)", "g::<A>(b, a)", "g::<A>(a, a)"], results("g::<A>(a, b)", "argument"))
+        self.assertEqual(
+            ["put::<A>(&b, &a, i + 1, 1, 2)", "put::<A>(&a, &b, i + 1, 2, 1)"],
+            results("put::<A>(&a, &b, i + 1, 1, 2)", "argument"),
+        )
+        self.assertEqual(["h(2, g::<[A; N], B>(a))"], results("h(g::<[A; N], B>(a), 2)", "argument"))
+
+    def test_type_arguments(self) -> None:
+        self.assertEqual(["g::<B, B>(a)", "g::<B, A>(a)", "g::<A, A>(a)"], results("g::<A, B>(a)", "argument"))
+        self.assertEqual(["g::<k::B, A>(a)"], results("g::<A, k::B>(a)", "argument"))
+        self.assertEqual([], results("g::<'a, A>(a)", "argument") + results("g::<A, 2>(a)", "argument"))
+
+    def test_a_kind_becomes_each_other_one(self) -> None:
+        kinds = "".join(f"pub struct {name}(pub u64);\n" for name in ("Void", "Time", "Zero", "Pair"))
+        texts = {
+            "crates/two/src/kinds.rt": kinds,
+            "crates/two/src/lib.rt": function("g::<kinds::Time>(a)"),
+            "crates/one/src/lib.rt": "use two::kinds::{Void, Zero};\n" + function("g::<Void>(a); g::<Zero>(a); g::<X>(a)"),
+        }
+        sources = [read_source(path, text) for path, text in texts.items()]
+        within, without = [
+            [
+                f"{source.text[change.start : change.end]} -> {change.new}"
+                for change in changes_of(source, source.bodies[0], Declared(sources))
+                if change.kind == "argument"
+            ]
+            for source in sources[1:]
+        ]
+        self.assertEqual(["kinds::Time -> crate::kinds::Void", "kinds::Time -> crate::kinds::Zero"], within)
+        self.assertEqual(["Void -> Zero", "Void -> two::kinds::Time"], without[:2])
+        self.assertEqual(["Zero -> Void", "Zero -> two::kinds::Time"], without[2:])
+
+    def test_bars_of_closures_are_no_operators(self) -> None:
+        self.assertEqual(["g(|x| x - 1)"], results("g(|x| x + 1)", "operator"))
+        self.assertEqual(["a.g(b, |x, y| x & y)"], results("a.g(b, |x, y| x | y)", "operator"))
+        self.assertEqual(["g(move |x| x)"], results("g(move |x| -x)", "operator"))
+        self.assertEqual(["g(a)? & b"], results("g(a)? | b", "operator"))
+        self.assertEqual(["g(|x, y| c, b)"], results("g(b, |x, y| c)", "argument"))
+        self.assertEqual([], results("g(|Pair(x, y)| x)", "argument"))
+
     def test_fields(self) -> None:
         self.assertEqual(["Pair { a: 2, b: 1 }"], results("Pair { a: 1, b: 2 }", "argument"))
         self.assertEqual(["Pair { a: b, b: a, c }"], results("Pair { a, b, c }", "argument"))
@@ -196,6 +259,27 @@ class Changes(unittest.TestCase):
         self.assertEqual(["Face::Sealed"], results("Face::Closed", "branch"))
         self.assertEqual(["Face::Closed"], results("Face::Drained(p)", "branch"))
         self.assertEqual([], results("if let Face::Closed = a { 1 } else { 2 }", "branch"))
+
+    def test_some_becomes_none(self) -> None:
+        self.assertEqual(["None"], results("Some(a + b)", "branch"))
+        self.assertEqual(["g(None, c)"], results("g(Some((a, b)), c)", "branch"))
+        self.assertEqual(["None", "Some(Face::Sealed)"], results("Some(Face::Closed)", "branch"))
+        self.assertEqual(["let Some(b) = None else { c };"], results("let Some(b) = Some(a) else { c };", "branch"))
+        self.assertEqual(["match a { Some(b) => None, _ => c }"], results("match a { Some(b) => Some(b), _ => c }", "branch"))
+        self.assertEqual(["g(|Some(b)| None)"], results("g(|Some(b)| Some(b))", "branch"))
+        self.assertEqual([], results("if let Some(b) = a { 1 } else { 2 }", "branch"))
+        self.assertEqual([" None"], results("a.map(Some); None", "branch"))
+
+    def test_a_none_that_is_given_back_becomes_a_variant_that_holds_nothing(self) -> None:
+        held = "pub enum Held { Full(u64), Empty }\n"
+        none = ("Option<Pair>", "Option<u64>", "Result<Face, u64>", "Face")
+        empty = {"Option<Face>": "Face::Closed", "Option<Held>": "Held::Empty", **{given: "" for given in none}}
+        for given, variant in empty.items():
+            text = DECLARED + held + function("g(None); return None; None").replace("-> u64", f"-> {given}")
+            source = read_source("crates/one/src/lib.rt", text)
+            found = [applied(source, change) for change in changes_of(source, source.bodies[-1], Declared([source]))]
+            wanted = [f"g(None); return Some({variant}); None"] if variant else []
+            self.assertEqual(wanted, [line for one in found for line in one.splitlines() if "Some(" in line], given)
 
     def test_statements_go(self) -> None:
         self.assertEqual([" b"], results("a += 1; b", "branch"))
